@@ -1,0 +1,15 @@
+//! The values that every other crate speaks of: texts, lists and documents, each seen by contracts as
+//! the plain list or record that it stands for.
+#![tactic(auto)]
+
+mod document;
+mod list;
+mod no_memory;
+mod text;
+
+pub use document::{
+    ArcNode, Document, Item, Items, NetTree, PageNode, PlaceNode, RefNode, TransitionNode,
+};
+pub use list::{CopyList, List};
+pub use no_memory::NoMemory;
+pub use text::Text;
