@@ -1,7 +1,7 @@
 -- Sums over the numbers below a bound, each by induction on the bound: term by term, of one term alone,
 -- and a sum over a list whose members name their places, read place by place.
 use Rattle.std.proofs.Common.{◌≡◌, ◌≢◌, refl, sym, ap, ◌∙◌, ℕ, zero, suc, ◌+◌, ◌*◌, ◌^◌, ◌<◌, ◌≤◌, ◌==◌, cond, List, [], ◌∷◌, length, get_or, All, sum_by, inl, inr, arith}
-use Rattle.std.proofs.lemmas.Bool.{cases_lt, cases_eq}
+use Rattle.std.proofs.lemmas.Bool.{cases_eq}
 use Rattle.std.proofs.lemmas.Bool.Decides.{nat_tests}
 use Rattle.std.proofs.lemmas.List.Sums.{sum_by-cons}
 use Rattle.std.proofs.lemmas.List.Elements.{All-tail}
@@ -62,11 +62,11 @@ by_place place count y n (x ∷ xs) within =
     let rest = by_place place count y n xs (All-tail (λ x. place x < n) x xs within) in
     let here : place x < n = within 0 x (omega arith) in
     let one : sum_below n (λ p. y p * counts_at place count p x) ≡ y (place x) * count x =
-        below_one n (place x) (λ p. y p * counts_at place count p x) here (λ i under other. zero_product (y i) _ (counts_elsewhere place count i x (λ same. other (sym same))))
-        ∙ ap (λ z. y (place x) * z) (counts_here place count (place x) x refl)
+    below_one n (place x) (λ p. y p * counts_at place count p x) here (λ i under other. zero_product (y i) _ (counts_elsewhere place count i x (λ same. other (sym same))))
+    ∙ ap (λ z. y (place x) * z) (counts_here place count (place x) x refl)
     in
     let all = below_added n (λ p. y p * counts_at place count p x) (λ p. y p * sum_by (counts_at place count p) xs) (λ p. y p * sum_by (counts_at place count p) (x ∷ xs))
-        (λ i under. ap (λ z. y i * z) (sum_by-cons (counts_at place count i) x xs) ∙ omega arith)
+    (λ i under. ap (λ z. y i * z) (sum_by-cons (counts_at place count i) x xs) ∙ omega arith)
     in
     sum_by-cons (λ x. y (place x) * count x) x xs ∙ ap (λ z. z + sum_by (λ x. y (place x) * count x) xs) (sym one) ∙ ap (λ z. sum_below n (λ p. y p * counts_at place count p x) + z) rest ∙ sym all
 

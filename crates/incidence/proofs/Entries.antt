@@ -1,6 +1,6 @@
 -- The excess of a transition at a place is what the entry of the place counts for: no other entry stands
 -- there, and without an entry the weight is 0.
-use Rattle.std.proofs.Common.{◌≡◌, ◌≢◌, refl, sym, ap, ◌∙◌, ℕ, ◌+◌, ◌*◌, ◌-◌, ◌^◌, ◌<◌, List, All, length, get_or, take, sum_by, inl, inr, arith}
+use Rattle.std.proofs.Common.{◌≡◌, refl, sym, ap, ◌∙◌, ℕ, ◌+◌, ◌*◌, ◌-◌, ◌^◌, ◌<◌, List, All, length, get_or, take, sum_by, inl, inr, arith}
 use Rattle.std.proofs.lemmas.List.Sums.{sum_by_more_le}
 use Rattle.std.proofs.lemmas.Bool.{cases_lt}
 use Rattle.std.proofs.lemmas.List.{get_or_default}
@@ -26,18 +26,18 @@ excess_listed places weights back entries listed p =
           let weight : (get_or entries found.0 found.1).weight ≡ weights p = listed.sound found.0 found.1 found.2 ∙ ap weights place in
           let back_same : back (get_or entries found.0 found.1).place ≡ back p = ap back place in
           let one = sum_one (left_at back p) entries found.0 found.1 found.2 (λ i e inside other.
-              counts_elsewhere (λ (e : WeightedPlace). e.place) (left_of back) p (get_or entries i e)
-              (λ same. others_elsewhere entries found.0 listed.column found.2 i e inside other (same ∙ sym place ∙ ap (λ (e : WeightedPlace). e.place) (get_or_default entries found.0 found.1 e found.2))))
+          counts_elsewhere (λ (e : WeightedPlace). e.place) (left_of back) p (get_or entries i e)
+          (λ same. others_elsewhere entries found.0 listed.column found.2 i e inside other (same ∙ sym place ∙ ap (λ (e : WeightedPlace). e.place) (get_or_default entries found.0 found.1 e found.2))))
           in
           let here = counts_here (λ (e : WeightedPlace). e.place) (left_of back) p (get_or entries found.0 found.1) place in
           one ∙ here ∙ omega arith
       | inr none ↦
           sum_none (left_at back p) entries (λ i e inside.
-            counts_elsewhere (λ (e : WeightedPlace). e.place) (left_of back) p (get_or entries i e)
-            (λ same.
-              let weight : (get_or entries i e).weight ≡ weights p = listed.sound i e inside ∙ ap weights same in
-              let some : 0 < (get_or entries i e).weight = listed.column.positive i e inside in
-              omega arith))
+          counts_elsewhere (λ (e : WeightedPlace). e.place) (left_of back) p (get_or entries i e)
+          (λ same.
+          let weight : (get_or entries i e).weight ≡ weights p = listed.sound i e inside ∙ ap weights same in
+          let some : 0 < (get_or entries i e).weight = listed.column.positive i e inside in
+          omega arith))
           ∙ omega arith
     ]
 

@@ -1,14 +1,16 @@
 -- What the entries of a column give at a row, and the two tables of an incidence: at most one of two
 -- cut-off differences of the same numbers is positive.
-use Rattle.std.proofs.Common.{◌≡◌, refl, sym, ap, ◌∙◌, ℕ, ◌+◌, ◌*◌, ◌-◌, ◌^◌, ◌<◌, ◌≤◌, List, All, length, get_or, take, sum_by, inl, inr, arith}
+use Rattle.std.proofs.Common.{◌≡◌, refl, sym, ap, ◌∙◌, ℕ, ◌+◌, ◌*◌, ◌-◌, ◌<◌, ◌≤◌, List, All, length, get_or, take, sum_by, inl, inr, arith}
+use mathlib.Core.Path.{fun_ext}
 use Rattle.std.proofs.lemmas.Bool.{cases_lt}
 use Rattle.std.proofs.lemmas.List.Sums.{sum_by_more_le}
 use Rattle.net_values.specs.FlatNets.{NetLists, net_of, IsFlatNet}
 use Rattle.incidence.specs.declared.sparse.Amount.{Amount}
 use Rattle.incidence.specs.declared.side.Side.TheVariants.{Gain, Loss}
 use Rattle.incidence.specs.Excess.{IsSide}
+use Rattle.incidence.specs.Matrix.{Matrix}
 use Rattle.incidence.specs.Sums.{sum_below}
-use Rattle.incidence.specs.Tables.{Table, Tables, IsTable, IsTurned, IsIncidence, amount_at, part_at, column_at, at}
+use Rattle.incidence.specs.Tables.{Table, Tables, IsTurned, IsIncidence, amount_at, part_at, at}
 use Rattle.incidence.proofs.Below.{by_place, counts_here, zero_product}
 
 -- the sum over the entries is the sum over the rows
@@ -47,3 +49,11 @@ turned_incidence old gains losses h g l = record {
   columns = let size = h.rows in let same = g.width in omega arith;
   apart = λ i j. ap (λ x. x * at losses i j) (g.exchanged j i) ∙ ap (λ x. at old.gains j i * x) (l.exchanged j i) ∙ h.apart j i;
 }
+
+-- matrices of one size with the same entries are equal
+pub equal_matrices : (m n : Matrix) → m.rows ≡ n.rows → m.columns ≡ n.columns → ((i j : ℕ) → m.gain i j ≡ n.gain i j) → ((i j : ℕ) → m.loss i j ≡ n.loss i j) → m ≡ n
+equal_matrices m n rows columns gain loss =
+    let gains : m.gain ≡ n.gain = fun_ext (λ i. fun_ext (λ j. gain i j)) in
+    let losses : m.loss ≡ n.loss = fun_ext (λ i. fun_ext (λ j. loss i j)) in
+    let M : ℕ → ℕ → (ℕ → ℕ → ℕ) → (ℕ → ℕ → ℕ) → Matrix = λ r c g l. record { rows = r; columns = c; gain = g; loss = l } in
+    ap (λ (r : ℕ). M r m.columns m.gain m.loss) rows ∙ ap (λ (c : ℕ). M n.rows c m.gain m.loss) columns ∙ ap (λ (g : ℕ → ℕ → ℕ). M n.rows n.columns g m.loss) gains ∙ ap (M n.rows n.columns n.gain) losses

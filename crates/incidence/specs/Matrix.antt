@@ -1,7 +1,7 @@
 -- A matrix of whole numbers, as two matrices of natural numbers: `gain i j` is the entry where it is
 -- positive, else 0, and `loss i j` is the negated entry where it is negative, else 0. Rows and columns are
 -- numbers below the two counts; what stands past them doesn't count. A vector is a function of the row.
-use Rattle.std.specs.Prelude.{◌≡◌, ℕ, ℤ, pos, ◌*◌, ◌-◌, ◌<◌, ◌^◌, ◌-ℤ◌}
+use Rattle.std.specs.Prelude.{ℕ, ℤ, pos, ◌*◌, ◌-◌, ◌<◌, ◌^◌, ◌-ℤ◌}
 use Rattle.net_values.specs.Net.{Net}
 use Rattle.incidence.specs.Sums.{sum_below}
 
@@ -45,10 +45,3 @@ loss_sum m j y = sum_below m.rows (λ i. y i * m.loss i j)
 pub record AreNarrow (m : Matrix) (j : ℕ) (y : ℕ → ℕ) : Type 0 where
   pub gain : gain_sum m j y < 2 ^ 127
   pub loss : loss_sum m j y < 2 ^ 127
-
--- two matrices have the same size and the same entries
-pub record AreEqual (m n : Matrix) : Type 0 where
-  pub rows : m.rows ≡ n.rows
-  pub columns : m.columns ≡ n.columns
-  pub gain : (i j : ℕ) → m.gain i j ≡ n.gain i j
-  pub loss : (i j : ℕ) → m.loss i j ≡ n.loss i j

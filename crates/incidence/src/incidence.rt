@@ -1,6 +1,6 @@
 ghost use Rattle.std.specs.Prelude.{◌≡◌, ◌<◌, OkIff, IfOk, length, pos, slice_index};
 ghost use Rattle.net_values.specs.FlatNets.{net_of};
-ghost use Rattle.incidence.specs.Matrix.{AreNarrow, AreEqual, gain_sum, loss_sum, incidence_of, transposed, entry_of};
+ghost use Rattle.incidence.specs.Matrix.{AreNarrow, gain_sum, loss_sum, incidence_of, transposed, entry_of};
 ghost use Rattle.incidence.specs.Tables.{matrix_of, IsIncidence};
 
 use crate::side::Side;
@@ -31,7 +31,7 @@ impl Model for Incidence {
 impl Incidence {
     /// The incidence of a net: a row per place, a column per transition, and the entries `Post - Pre`.
     pub fn of(alloc: Global, net: &FlatNet) -> Result<Incidence, NoMemory>
-        ensures { IfOk result (λ m. AreEqual (matrix_of m) (incidence_of (net_of net.now))) }
+        ensures { IfOk result (λ m. matrix_of m ≡ incidence_of (net_of net.now)) }
     {
         Ok(Incidence {
             gains: Side::Gain.table(alloc, net)?,
@@ -41,7 +41,7 @@ impl Incidence {
 
     /// The matrix with rows and columns exchanged.
     pub fn transpose(&self, alloc: Global) -> Result<Incidence, NoMemory>
-        ensures { IfOk result (λ m. AreEqual (matrix_of m) (transposed (matrix_of self.now))) }
+        ensures { IfOk result (λ m. matrix_of m ≡ transposed (matrix_of self.now)) }
     {
         Ok(Incidence {
             gains: self.gains.transpose(alloc)?,

@@ -6,6 +6,8 @@ mod flat_sums;
 mod incidence;
 mod side;
 mod sparse;
+#[cfg(test)]
+mod tests;
 mod wide_sum;
 
 pub use flat_sums::net_sums;

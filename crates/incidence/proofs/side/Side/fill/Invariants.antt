@@ -1,4 +1,4 @@
-use Rattle.std.proofs.Common.{◌≡◌, ℕ, ◌<◌, length, sum_by, take}
+use Rattle.std.proofs.Common.{◌≡◌, ℕ, length, sum_by, take}
 use Rattle.net_values.specs.FlatNets.{net_of}
 use Rattle.incidence.specs.Excess.{back_of}
 use Rattle.incidence.specs.Tables.{at}

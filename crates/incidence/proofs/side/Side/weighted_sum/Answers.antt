@@ -1,4 +1,4 @@
-use Rattle.std.proofs.Common.{◌≡◌, ap, ◌∙◌, subst, ℕ, ◌*◌, ◌^◌, ◌<◌, List, slice_index, sum_by}
+use Rattle.std.proofs.Common.{ap, ◌∙◌, subst, ℕ, ◌*◌, ◌^◌, ◌<◌, slice_index, sum_by}
 use Rattle.std.proofs.lemmas.List.{take_all}
 use Rattle.std.proofs.lemmas.List.Sums.{sum_by_more_le}
 use Rattle.std.proofs.lemmas.Result.{err_from_is_err_and}

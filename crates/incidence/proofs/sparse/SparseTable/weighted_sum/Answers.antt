@@ -1,6 +1,5 @@
-use Rattle.std.proofs.Common.{◌≡◌, ap, ◌∙◌, subst, sym, ℕ, ◌*◌, ◌^◌, ◌<◌, List, All, OkIff, Result, slice_index, sum_by}
+use Rattle.std.proofs.Common.{ap, ◌∙◌, subst, sym, ℕ, ◌*◌, ◌^◌, ◌<◌, List, All, OkIff, slice_index}
 use Rattle.incidence.specs.declared.sparse.Amount.{Amount}
-use Rattle.incidence.specs.declared.wide_sum.WideSum.{WideSum}
 use Rattle.incidence.specs.Sums.{sum_below}
 use Rattle.incidence.specs.Tables.{amount_at}
 use Rattle.incidence.proofs.TableLemmas.{amounts_total}
