@@ -1,0 +1,6 @@
+pub mod Weighted
+pub mod Support
+pub mod Transport
+pub mod GcdLemmas
+pub mod Minimal
+pub mod Rows

@@ -1,0 +1,25 @@
+-- Lists of semiflows of minimal support.
+use Rattle.std.specs.Prelude.{◌≡◌, ◌↔◌, ℕ, List, length, All, AllPairs, Any, Contains, slice_index}
+use Rattle.support_prune.specs.Pools.{AreApart}
+use Rattle.incidence.specs.Matrix.{Matrix}
+use Rattle.incidence.specs.Semiflow.{IsWithin, IsSemiflow, IsCoprime, IsMinimal}
+
+-- the list has an entry for each row of the matrix, and is a semiflow over K with coprime entries whose
+-- support is minimal
+pub record IsMinimalRow (m : Matrix) (K : ℕ → Type 0) (row : List ℕ) : Type 0 where
+  pub size : length row ≡ m.rows
+  pub minimal : IsMinimal m K (slice_index row)
+
+-- the rows are exactly the semiflows over K of minimal support with coprime entries, each once, in any order
+pub record AreMinimal (m : Matrix) (K : ℕ → Type 0) (rows : List (List ℕ)) : Type 0 where
+  pub members : (x : List ℕ) → (Contains rows x) ↔ IsMinimalRow m K x
+  pub once : AllPairs (λ row later. row ≡ later → ⊥) rows
+
+-- rows that are semiflows over K with coprime entries, of which no support is in another's, with one below
+-- each semiflow over K
+pub record IsBasis (m : Matrix) (K : ℕ → Type 0) (rows : List (List ℕ)) : Type 0 where
+  pub size : All (λ row. length row ≡ m.rows) rows
+  pub semiflow : All (λ row. IsSemiflow m K (slice_index row)) rows
+  pub coprime : All (λ row. IsCoprime m (slice_index row)) rows
+  pub apart : AllPairs AreApart rows
+  pub below : (y : ℕ → ℕ) → IsSemiflow m K y → Any (λ row. IsWithin m (slice_index row) y) rows
