@@ -12,4 +12,4 @@ mod wide_sum;
 
 pub use flat_sums::net_sums;
 pub use incidence::Incidence;
-pub use wide_sum::WideSum;
+pub use wide_sum::{WideSum, add_product};

@@ -5,7 +5,7 @@ ghost use Rattle.std.specs.Prelude.{◌+◌, ◌*◌, ◌<◌, ◌^◌, OkIff};
 pub struct WideSum;
 
 /// The total and the product of the two factors together.
-pub(crate) fn add_product(total: u128, factor: u128, amount: u128) -> Result<u128, WideSum>
+pub fn add_product(total: u128, factor: u128, amount: u128) -> Result<u128, WideSum>
     ensures { OkIff result (total + factor * amount < 2 ^ 127) (total + factor * amount) }
 {
     let product = factor.checked_mul(amount).ok_or(WideSum)?;

@@ -1,3 +1,5 @@
 pub mod Generated
 pub mod Bases
 pub mod Laws
+pub mod Elimination
+pub mod Arithmetic

@@ -1,6 +1,10 @@
-//! Minimal semiflows.
+//! The minimal semiflows of a matrix, by elimination of one column after another: at every moment the rows
+//! are exactly the semiflows of minimal support, with coprime entries, over the columns that were taken.
 #![tactic(auto)]
 
+mod fault;
 mod laws;
+mod row_arithmetic;
 
+pub use fault::ElimFault;
 pub use laws::{bases_are_minimal, minimal_ones_are_proportional};

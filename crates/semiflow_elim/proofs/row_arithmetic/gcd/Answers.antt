@@ -1,0 +1,9 @@
+use Rattle.std.proofs.Common.{arith}
+use Rattle.std.proofs.lemmas.Nat.Gcd.{IsGcd-from_mod, IsGcd-from_zero}
+use Rattle.semiflow_elim.proofs.row_arithmetic.gcd.Goals as goal
+
+pub loop-smaller-preserved : goal.loop-smaller-preserved
+loop-smaller-preserved c = λ g is. c.loop-smaller.invariant g (IsGcd-from_mod c.loop-smaller.larger c.loop-smaller.smaller g is)
+
+pub returns : goal.returns
+returns c = c.loop-smaller.invariant c.loop-smaller.larger (IsGcd-from_zero c.loop-smaller.larger c.loop-smaller.smaller (omega arith))

@@ -1,0 +1,20 @@
+-- Arithmetic on the entries of rows.
+use Rattle.std.specs.Prelude.{◌≡◌, ℕ, ◌+◌, ◌*◌, ◌^◌, ◌<◌, ◌≤◌, List, length, slice_index}
+use Rattle.std.specs.Int.{◌∣◌}
+
+-- the first n entries of p are those of x * r + y * s, and none exceeds 2^127 - 1
+pub record IsScaledSum (x : ℕ) (r : List ℕ) (y : ℕ) (s : List ℕ) (n : ℕ) (p : List ℕ) : Type 0 where
+  pub size : length p ≡ n
+  pub entries : (i : ℕ) → i < n → slice_index p i ≡ x * slice_index r i + y * slice_index s i
+  pub narrow : (i : ℕ) → i < n → slice_index p i < 2 ^ 127
+
+-- some entry of x * r + y * s exceeds 2^127 - 1
+pub record HasWideEntry (x : ℕ) (r : List ℕ) (y : ℕ) (s : List ℕ) : Type 0 where
+  pub at : ℕ
+  pub within : at < length r
+  pub wide : 2 ^ 127 ≤ x * slice_index r at + y * slice_index s at
+
+-- the greatest common divisor of the first n entries
+pub record IsGcdOfAll (entries : List ℕ) (n divisor : ℕ) : Type 0 where
+  pub divides : (i : ℕ) → i < n → divisor ∣ slice_index entries i
+  pub greatest : (d : ℕ) → ((i : ℕ) → i < n → d ∣ slice_index entries i) → d ∣ divisor

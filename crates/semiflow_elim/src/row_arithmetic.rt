@@ -1,0 +1,82 @@
+ghost use Rattle.std.specs.Prelude.{◌≡◌, ℕ, ◌+◌, ◌*◌, ◌/◌, ◌^◌, ◌<◌, ◌≤◌, OkIff, IfOk, IfErr, length, slice_index};
+ghost use Rattle.std.specs.Int.{IsGcd};
+ghost use Rattle.semiflow_elim.specs.Arithmetic.{IsScaledSum, IsGcdOfAll, HasWideEntry};
+
+use incidence::{WideSum, add_product};
+use std::alloc::Global;
+
+/// Why a combination of two rows can't be formed.
+#[derive(Clone, Copy, Debug, PartialEq, Eq)]
+pub(crate) enum RowFault {
+    NoMemory,
+    Wide,
+}
+
+/// The greatest common divisor of two numbers, by Euclid's algorithm.
+pub(crate) fn gcd(a: u128, b: u128) -> u128
+    ensures { IsGcd a b result }
+{
+    let mut larger = a;
+    let mut smaller = b;
+    while smaller > 0 {
+        let remainder = larger % smaller;
+        larger = smaller;
+        smaller = remainder;
+    }
+    larger
+}
+
+/// The greatest common divisor of the entries, 0 where all are 0.
+pub(crate) fn gcd_of_all(entries: &[u128]) -> u128
+    ensures { IsGcdOfAll entries.now (length entries.now) result }
+{
+    let mut divisor = 0;
+    for entry in entries {
+        divisor = gcd(divisor, *entry);
+    }
+    divisor
+}
+
+/// Divides each entry.
+pub(crate) fn divide_all(entries: &mut [u128], divisor: u128)
+    requires { 0 < divisor }
+    ensures { (i : ℕ) → slice_index entries.new i ≡ slice_index entries.old i / divisor }
+{
+    for entry in entries.iter_mut() {
+        *entry /= divisor;
+    }
+}
+
+/// Two multiples together.
+fn scaled_entry(x: u128, r: u128, y: u128, s: u128) -> Result<u128, WideSum>
+    ensures { OkIff result (x * r + y * s < 2 ^ 127) (x * r + y * s) }
+{
+    let first = add_product(0, x, r)?;
+    add_product(first, y, s)
+}
+
+/// The sum of the multiples of two rows.
+pub(crate) fn scaled_sum(
+    alloc: Global,
+    x: u128,
+    r: &[u128],
+    y: u128,
+    s: &[u128],
+) -> Result<Vec<u128>, RowFault>
+    requires { length r.now ≡ length s.now }
+    ensures ok { IfOk result (λ sums. IsScaledSum x r.now y s.now (length r.now) sums.items) }
+    ensures wide { IfErr result (λ fault. fault ≡ RowFault.Wide → HasWideEntry x r.now y s.now) }
+{
+    let mut sums = Vec::new(alloc);
+    for i in 0..r.len() {
+        match scaled_entry(x, r[i], y, s[i]) {
+            Ok(entry) => {
+                if sums.push(entry).is_err() {
+                    return Err(RowFault::NoMemory);
+                }
+            }
+            Err(WideSum) => return Err(RowFault::Wide),
+        }
+    }
+    Ok(sums)
+}
