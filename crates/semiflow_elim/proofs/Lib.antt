@@ -4,4 +4,4 @@ pub mod Transport
 pub mod GcdLemmas
 pub mod Minimal
 pub mod Rows
-pub mod Candidates
+pub mod CandidateLemmas

@@ -23,3 +23,13 @@ pub record IsBasis (m : Matrix) (K : ℕ → Type 0) (rows : List (List ℕ)) : 
   pub coprime : All (λ row. IsCoprime m (slice_index row)) rows
   pub apart : AllPairs AreApart rows
   pub below : (y : ℕ → ℕ) → IsSemiflow m K y → Any (λ row. IsWithin m (slice_index row) y) rows
+
+-- some row of a pool has a support in that of y
+abbrev pub HasBelow : Matrix → List (List ℕ) → (ℕ → ℕ) → Type 0
+HasBelow m pool y = Any (λ row. IsWithin m (slice_index row) y) pool
+
+-- the list has an entry for each row of the matrix, and is a semiflow over K with coprime entries
+pub record IsGood (m : Matrix) (K : ℕ → Type 0) (row : List ℕ) : Type 0 where
+  pub size : length row ≡ m.rows
+  pub semiflow : IsSemiflow m K (slice_index row)
+  pub coprime : IsCoprime m (slice_index row)

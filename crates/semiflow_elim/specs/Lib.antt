@@ -3,3 +3,4 @@ pub mod Bases
 pub mod Laws
 pub mod Elimination
 pub mod Arithmetic
+pub mod Candidates

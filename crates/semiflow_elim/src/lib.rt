@@ -2,9 +2,11 @@
 //! are exactly the semiflows of minimal support, with coprime entries, over the columns that were taken.
 #![tactic(auto)]
 
+mod candidates;
 mod fault;
 mod laws;
 mod row_arithmetic;
+mod signs;
 
 pub use fault::ElimFault;
 pub use laws::{bases_are_minimal, minimal_ones_are_proportional};

@@ -1,8 +1,8 @@
 use Rattle.std.proofs.Common.{ℕ, ◌<◌, List, All, AllPairs}
 use Rattle.support_prune.specs.Pools.{AreApart}
 use Rattle.incidence.specs.Matrix.{Matrix}
-use Rattle.semiflow_elim.specs.Bases.{IsBasis}
-use Rattle.semiflow_elim.proofs.Candidates.{step_basis, Extends, IsGood, AllMet}
+use Rattle.semiflow_elim.specs.Bases.{IsBasis, IsGood}
+use Rattle.semiflow_elim.proofs.CandidateLemmas.{step_basis, Extends, AllMet}
 use Rattle.semiflow_elim.specs.Laws.{is_in}
 use Rattle.semiflow_elim.proofs.Rows.{basis_minimal}
 use Rattle.semiflow_elim.proofs.laws.bases_are_minimal.Goals as goal

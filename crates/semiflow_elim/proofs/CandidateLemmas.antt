@@ -9,7 +9,7 @@ use Rattle.std.proofs.Math.Nat.{mul-dvd-mul_left, dvd_of_mul-dvd-mul_left, eq-on
 use Rattle.support_prune.specs.Pools.{AreApart}
 use Rattle.incidence.specs.Matrix.{Matrix, gain_sum, loss_sum}
 use Rattle.incidence.specs.Semiflow.{IsWithin, IsNonzero, IsSemiflow, IsCoprime}
-use Rattle.semiflow_elim.specs.Bases.{IsBasis}
+use Rattle.semiflow_elim.specs.Bases.{IsBasis, HasBelow, IsGood}
 use Rattle.semiflow_elim.specs.Elimination.{row_of}
 use Rattle.semiflow_elim.proofs.Weighted.{weighted_join, weighted_scale}
 use Rattle.semiflow_elim.proofs.Transport.{rows_below}
@@ -84,18 +84,8 @@ divided_coprime m p d h positive entries greatest e divides =
     let one : h * e ∣ h * 1 = subst (λ (z : ℕ). h * e ∣ z) (omega arith) whole in
     eq-one_of_dvd-one (dvd_of_mul-dvd-mul_left e {n = 1} positive one)
 
--- some row of a pool is below a vector
-abbrev pub HasBelow : Matrix → List (List ℕ) → (ℕ → ℕ) → Type 0
-HasBelow m pool y = Any (λ row. IsWithin m (slice_index row) y) pool
-
 pub below_trans : (m : Matrix) (pool : List (List ℕ)) (y z : ℕ → ℕ) → HasBelow m pool y → IsWithin m y z → HasBelow m pool z
 below_trans m pool y z has within = (has.0, has.1, has.2, has.3, λ i under some. within i under (has.4 i under some))
-
--- a row over the columns with the new one, of the matrix's size and with coprime entries
-pub record IsGood (m : Matrix) (K : ℕ → Type 0) (row : List ℕ) : Type 0 where
-  pub size : length row ≡ m.rows
-  pub semiflow : IsSemiflow m K (slice_index row)
-  pub coprime : IsCoprime m (slice_index row)
 
 -- each candidate has a row of the pool below it
 pub record AllMet (m : Matrix) (c : ℕ) (rows pool : List (List ℕ)) : Type 0 where
