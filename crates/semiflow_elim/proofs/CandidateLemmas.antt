@@ -46,7 +46,7 @@ joined_new gp lp gr lr gs ls x y a b g l r s same =
     let two : y * ls ≡ y * (gs + b) = ap (λ z. y * z) s in
     omega arith
 
-product_positive : (x r : ℕ) → 0 < x → 0 < r → 0 < x * r
+pub product_positive : (x r : ℕ) → 0 < x → 0 < r → 0 < x * r
 product_positive x r first second = let h : x * 0 < x * r = mul-lt-mul_of_pos_left second first in omega arith
 
 -- the combination of a positive and a negative row with coefficients that cancel their differences
@@ -60,7 +60,7 @@ pair_semiflow m K K' c p r s x y a b more r_flow s_flow r_over s_under cancels p
     (λ j q k. joined_old _ _ _ _ _ _ x y (weighted_join m.rows (λ i. m.gain i j) p r s x y entries) (weighted_join m.rows (λ i. m.loss i j) p r s x y entries) (r_flow.balanced j q k) (s_flow.balanced j q k))
     (joined_new _ _ _ _ _ _ x y a b (weighted_join m.rows (λ i. m.gain i c) p r s x y entries) (weighted_join m.rows (λ i. m.loss i c) p r s x y entries) r_over s_under cancels)
 
-zero_factor : (h d : ℕ) → 0 < h * d → 0 < d
+pub zero_factor : (h d : ℕ) → 0 < h * d → 0 < d
 zero_factor h zero some = absurd (omega arith)
 zero_factor h (suc d) some = omega arith
 

@@ -5,3 +5,4 @@ pub mod GcdLemmas
 pub mod Minimal
 pub mod Rows
 pub mod CandidateLemmas
+pub mod Pairs

@@ -1,0 +1,205 @@
+-- Offering a pair's combination: divided by the greatest common divisor of its entries it is a coprime
+-- semiflow over one column more, below the two rows together.
+use Rattle.std.proofs.Common.{◌≡◌, ◌⊎◌, refl, sym, ap, ◌∙◌, subst, ℕ, zero, suc, ◌+◌, ◌-◌, ◌*◌, ◌/◌, ◌^◌, ◌<◌, ◌≤◌, List, [], ◌++◌, length, get_or, slice_index, take, drop, All, Any, Contains, inl, inr, arith}
+use Rattle.std.specs.Int.{◌∣◌, IsGcd}
+use Rattle.std.proofs.lemmas.Bool.{cases_lt}
+use Rattle.std.proofs.lemmas.List.{get_or_default}
+use Rattle.std.proofs.lemmas.List.Elements.{All-contains}
+use Rattle.std.proofs.lemmas.Nat.Gcd.{same_from_IsGcd}
+use Rattle.std.proofs.Math.Seq.{take-append_seam}
+use Rattle.std.proofs.Math.Nat.{pos_of_dvd_of_pos, mul-div_cancel', div-le_self}
+use Rattle.net_values.specs.Vectors.{IsVector}
+use Rattle.support_prune.specs.Pools.{Offered}
+use Rattle.support_prune.specs.Supports.{IsWithin as IsWithinList}
+use Rattle.incidence.specs.Matrix.{Matrix, gain_sum, loss_sum}
+use Rattle.incidence.specs.Semiflow.{IsWithin, IsSemiflow, first_columns}
+use Rattle.semiflow_elim.specs.Arithmetic.{IsScaledSum, IsGcdOfAll, HasWideEntry}
+use Rattle.semiflow_elim.specs.Bases.{IsBasis, HasBelow, IsGood}
+use Rattle.semiflow_elim.specs.Candidates.{IsCombined, IsWideCombination, IsStep, AreGood, Grows, IsMet, sums_of}
+use Rattle.semiflow_elim.specs.Elimination.{IsPair, IsWidePair, IsNarrowPair, row_of, surplus, deficit, combination}
+use Rattle.semiflow_elim.specs.declared.signs.RowSums.{RowSums}
+use Rattle.semiflow_elim.proofs.CandidateLemmas.{Extends, pair_semiflow, divided_semiflow, divided_coprime, zero_factor, product_positive}
+
+pub gcd_positive : (a b g : ℕ) → IsGcd a b g → 0 < a → 0 < g
+gcd_positive a b g gcd positive = pos_of_dvd_of_pos gcd.0 positive
+
+pub quotient_positive : (g b : ℕ) → g ∣ b → 0 < b → 0 < b / g
+quotient_positive g b divides positive =
+    let whole : g * (b / g) ≡ b = mul-div_cancel' g divides in
+    zero_factor g (b / g) (omega arith)
+
+-- a row with a positive entry makes the combination's divisor positive
+pub divisor_positive : (x y : ℕ) (r s p : List ℕ) (d : ℕ) → IsScaledSum x r y s (length r) p → IsGcdOfAll p (length r) d → ((i : ℕ) × (i < length r) × (0 < slice_index r i)) → 0 < x → 0 < d
+divisor_positive x y r s p d sums divisor some positive =
+    let entry = sums.entries some.0 some.1 in
+    let product = product_positive x (slice_index r some.0) positive some.2 in
+    pos_of_dvd_of_pos (divisor.divides some.0 some.1) (omega arith)
+
+-- the slices that the code reads are the lists that it was given
+pub combined_is : (r r' s s' p p' before after : List ℕ) (a b g d : ℕ) → IsGcd a b g → r' ≡ r → s' ≡ s → IsScaledSum (b / g) r' (a / g) s' (length r') p → p' ≡ p → IsGcdOfAll p' (length p') d → before ≡ p → length after ≡ length before → ((i : ℕ) → slice_index after i ≡ slice_index before i / d) → IsCombined r s a b after
+combined_is r r' s s' p p' before after a b g d gcd r_is s_is sums p_is divisor before_is size entries =
+    let sums_r : IsScaledSum (b / g) r (a / g) s' (length r) p = subst (λ (l : List ℕ). IsScaledSum (b / g) l (a / g) s' (length l) p) r_is sums in
+    let sums_s : IsScaledSum (b / g) r (a / g) s (length r) p = subst (λ (l : List ℕ). IsScaledSum (b / g) r (a / g) l (length r) p) s_is sums_r in
+    let whole : IsGcdOfAll p (length p) d = subst (λ (l : List ℕ). IsGcdOfAll l (length l) d) p_is divisor in
+    record {
+      g = g;
+      gcd = gcd;
+      sums = p;
+      sums_are = sums_s;
+      divisor = d;
+      divisor_is = subst (λ (n : ℕ). IsGcdOfAll p n d) sums_s.size whole;
+      size = size ∙ ap length before_is ∙ sums_s.size;
+      entries = λ i. entries i ∙ ap (λ (l : List ℕ). slice_index l i / d) before_is;
+    }
+
+pub combined_vector : (r s row : List ℕ) (a b : ℕ) → IsCombined r s a b row → IsVector r → IsVector row
+combined_vector r s row a b h vector = record {
+  short = let size = h.size in let bound = vector.short in omega arith;
+  narrow = λ k d within.
+      let read : get_or row k d ≡ slice_index row k = get_or_default row k d 0 within in
+      let entry : slice_index row k ≡ slice_index h.sums k / h.divisor = h.entries k in
+      let less : slice_index h.sums k / h.divisor ≤ slice_index h.sums k = div-le_self (slice_index h.sums k) h.divisor in
+      let size = h.size in
+      let narrow : slice_index h.sums k < 2 ^ 127 = h.sums_are.narrow k (omega arith) in
+      omega arith;
+}
+
+pub taken : (after items : List ℕ) (len : ℕ) → len ≡ length after → take len (after ++ drop (length after) items) ≡ after
+taken after items len is = ap (λ (n : ℕ). take n (after ++ drop (length after) items)) is ∙ take-append_seam after (drop (length after) items)
+
+-- what an offer of a good row leaves
+pub offered_grows : (m : Matrix) (c : ℕ) (old new : List (List ℕ)) (row : List ℕ) → AreGood m c old → IsGood m (first_columns (c + 1)) row → Offered old new row → Grows m c old new × HasBelow m new (slice_index row)
+offered_grows m c old new row good fine offered =
+    (record {
+      good = λ k d within. elim (offered.drawn k d within) [
+        | inl here ↦ All-contains (IsGood m (first_columns (c + 1))) old (get_or new k d) good here
+        | inr same ↦ subst (IsGood m (first_columns (c + 1))) (sym same) fine
+      ];
+      kept = λ y has.
+          let below = offered.kept_below has.0 has.1 has.2 in
+          let old_is : get_or old has.0 has.1 ≡ has.1 = has.3 in
+          (below.0, below.1, below.2, below.3, λ i under some. has.4 i under (subst (λ (l : List ℕ). 0 < slice_index l i) old_is (below.4 i some)));
+    }, (offered.offer_below.0, offered.offer_below.1, offered.offer_below.2, offered.offer_below.3, λ i under some. offered.offer_below.4 i some))
+
+first_extends : (c : ℕ) → Extends (first_columns c) c (first_columns (c + 1))
+first_extends c = record {
+  old = λ j below. omega arith;
+  new = omega arith;
+  only = λ j below. elim (cases_lt j c) [
+    | inl old ↦ inl old
+    | inr new ↦ inr (omega arith)
+  ];
+}
+
+either_positive : (x r y s : ℕ) → 0 < x * r + y * s → 0 < r + s
+either_positive x zero y zero some = absurd (omega arith)
+either_positive x zero y (suc s) some = omega arith
+either_positive x (suc r) y s some = omega arith
+
+quotient_entry : (p d q : ℕ) → q ≡ p / d → d ∣ p → p ≡ d * q
+quotient_entry p d q is divides = sym (ap (λ z. d * z) is ∙ mul-div_cancel' d divides)
+
+cross : (a b g : ℕ) → IsGcd a b g → (b / g) * a ≡ (a / g) * b
+cross a b g gcd =
+    let first : g * (a / g) ≡ a = mul-div_cancel' g gcd.0 in
+    let second : g * (b / g) ≡ b = mul-div_cancel' g gcd.1 in
+    let left : (b / g) * (g * (a / g)) ≡ (b / g) * a = ap (λ z. (b / g) * z) first in
+    let right : (a / g) * (g * (b / g)) ≡ (a / g) * b = ap (λ z. (a / g) * z) second in
+    omega arith
+
+-- the combination of a positive and a negative semiflow
+pub combined_good : (m : Matrix) (c : ℕ) (r s row : List ℕ) → length r ≡ m.rows → IsSemiflow m (first_columns c) (slice_index r) → IsSemiflow m (first_columns c) (slice_index s) → IsPair m c r s → IsCombined r s (surplus m c r) (deficit m c s) row → IsGood m (first_columns (c + 1)) row × IsWithin m (slice_index row) (λ x. slice_index r x + slice_index s x) × IsNarrowPair m c r s
+combined_good m c r s row size r_flow s_flow pair h =
+    let a = surplus m c r in
+    let b = deficit m c s in
+    let up = pair.positive in
+    let down = pair.negative in
+    let x = b / h.g in
+    let y = a / h.g in
+    let x_positive : 0 < x = quotient_positive h.g b h.gcd.1 (omega arith) in
+    let some = r_flow.nonzero in
+    let divisor : 0 < h.divisor = divisor_positive x y r s h.sums h.divisor h.sums_are h.divisor_is (some.0, omega (arith, some.1), some.2) x_positive in
+    let flow : IsSemiflow m (first_columns (c + 1)) (slice_index h.sums) =
+        pair_semiflow m (first_columns c) (first_columns (c + 1)) c (slice_index h.sums) (slice_index r) (slice_index s) x y a b (first_extends c) r_flow s_flow (omega arith) (omega arith) (cross a b h.g h.gcd) x_positive (λ i under. h.sums_are.entries i (omega arith))
+    in
+    let entries : (i : ℕ) → i < m.rows → slice_index h.sums i ≡ h.divisor * slice_index row i =
+        λ i under. quotient_entry (slice_index h.sums i) h.divisor (slice_index row i) (h.entries i) (h.divisor_is.divides i (omega arith))
+    in
+    (record {
+      size = h.size ∙ size;
+      semiflow = divided_semiflow m (first_columns (c + 1)) (slice_index h.sums) (slice_index row) h.divisor divisor entries flow;
+      coprime = divided_coprime m (slice_index h.sums) (slice_index row) h.divisor divisor entries (λ e each. h.divisor_is.greatest e (λ i under. each i (omega arith)));
+    },
+    λ i under more.
+      let entry = entries i under in
+      let sum = h.sums_are.entries i (omega arith) in
+      let inside : 0 < h.divisor * slice_index row i = product_positive h.divisor (slice_index row i) divisor more in
+      either_positive x (slice_index r i) y (slice_index s i) (omega arith),
+    λ g gcd i under.
+      let same : g ≡ h.g = same_from_IsGcd a b g h.g gcd h.gcd in
+      let at : combination m c g r s i ≡ combination m c h.g r s i = ap (λ (z : ℕ). combination m c z r s i) same in
+      let entry : slice_index h.sums i ≡ combination m c h.g r s i = h.sums_are.entries i (omega arith) in
+      let narrow : slice_index h.sums i < 2 ^ 127 = h.sums_are.narrow i (omega arith) in
+      omega arith)
+
+-- the differences that the code forms are those of the rows
+pub differences : (m : Matrix) (c : ℕ) (rows : List (List ℕ)) (sums : List RowSums) (i k : ℕ) → IsStep m c rows sums → i < length rows → k < length rows → ((sums_of sums i).gain - (sums_of sums i).loss ≡ surplus m c (row_of rows i)) × ((sums_of sums k).loss - (sums_of sums k).gain ≡ deficit m c (row_of rows k))
+differences m c rows sums i k step first second =
+    let gain_i = step.gains i first in
+    let loss_i = step.losses i first in
+    let gain_k = step.gains k second in
+    let loss_k = step.losses k second in
+    (omega arith, omega arith)
+
+pub pair_is : (m : Matrix) (c : ℕ) (rows : List (List ℕ)) (sums : List RowSums) (i k : ℕ) → IsStep m c rows sums → i < length rows → k < length rows → (sums_of sums i).loss < (sums_of sums i).gain → (sums_of sums k).gain < (sums_of sums k).loss → IsPair m c (row_of rows i) (row_of rows k)
+pair_is m c rows sums i k step first second up down = record {
+  positive = let gain = step.gains i first in let loss = step.losses i first in omega arith;
+  negative = let gain = step.gains k second in let loss = step.losses k second in omega arith;
+}
+
+-- a read of a row
+pub read_row : (rows : List (List ℕ)) (i : ℕ) (x : List ℕ) → i < length rows → x ≡ get_or rows i x → x ≡ row_of rows i
+read_row rows i x within is = is ∙ get_or_default rows i x [] within
+
+pub row_nonzero : (m : Matrix) (c : ℕ) (rows : List (List ℕ)) (sums : List RowSums) (i : ℕ) (x : List ℕ) → IsStep m c rows sums → i < length rows → x ≡ row_of rows i → (j : ℕ) × (j < length x) × (0 < slice_index x j)
+row_nonzero m c rows sums i x step within is =
+    let some = (step.basis.semiflow i [] within).nonzero in
+    let size = step.basis.size i [] within in
+    subst (λ (l : List ℕ). (j : ℕ) × (j < length l) × (0 < slice_index l j)) (sym is) (some.0, omega (arith, some.1), some.2)
+
+wide_pair : (m : Matrix) (c : ℕ) (r s : List ℕ) → length r ≡ m.rows → IsPair m c r s → IsWideCombination r s (surplus m c r) (deficit m c s) → IsWidePair m c r s
+wide_pair m c r s size pair wide = record {
+  pair = pair;
+  g = wide.g;
+  gcd = wide.gcd;
+  at = wide.wide.at;
+  within = let within = wide.wide.within in omega arith;
+  wide = wide.wide.wide;
+}
+
+pub pair_wide : (m : Matrix) (c : ℕ) (rows : List (List ℕ)) (sums : List RowSums) (i k : ℕ) (r s : List ℕ) → IsStep m c rows sums → i < length rows → k < length rows → (sums_of sums i).loss < (sums_of sums i).gain → (sums_of sums k).gain < (sums_of sums k).loss → r ≡ row_of rows i → s ≡ row_of rows k → IsWideCombination r s ((sums_of sums i).gain - (sums_of sums i).loss) ((sums_of sums k).loss - (sums_of sums k).gain) → IsWidePair m c (row_of rows i) (row_of rows k)
+pair_wide m c rows sums i k r s step first second up down r_is s_is wide =
+    let differ = differences m c rows sums i k step first second in
+    let A : ℕ = (sums_of sums i).gain - (sums_of sums i).loss in
+    let B : ℕ = (sums_of sums k).loss - (sums_of sums k).gain in
+    let W : List ℕ → List ℕ → ℕ → ℕ → Type 0 = λ r s a b. IsWideCombination r s a b in
+    let by_rows = subst (λ (l : List ℕ). W (row_of rows i) l A B) s_is (subst (λ (l : List ℕ). W l s A B) r_is wide) in
+    let by_sums = subst (λ (b : ℕ). W (row_of rows i) (row_of rows k) (surplus m c (row_of rows i)) b) differ.1 (subst (λ (a : ℕ). W (row_of rows i) (row_of rows k) a B) differ.0 by_rows) in
+    wide_pair m c (row_of rows i) (row_of rows k) (step.basis.size i [] first) (pair_is m c rows sums i k step first second up down) by_sums
+
+pub pair_good : (m : Matrix) (c : ℕ) (rows : List (List ℕ)) (sums : List RowSums) (i k : ℕ) (r s row : List ℕ) → IsStep m c rows sums → i < length rows → k < length rows → (sums_of sums i).loss < (sums_of sums i).gain → (sums_of sums k).gain < (sums_of sums k).loss → r ≡ row_of rows i → s ≡ row_of rows k → IsCombined r s ((sums_of sums i).gain - (sums_of sums i).loss) ((sums_of sums k).loss - (sums_of sums k).gain) row → IsGood m (first_columns (c + 1)) row × IsWithin m (slice_index row) (λ x. slice_index (row_of rows i) x + slice_index (row_of rows k) x) × IsNarrowPair m c (row_of rows i) (row_of rows k)
+pair_good m c rows sums i k r s row step first second up down r_is s_is combined =
+    let differ = differences m c rows sums i k step first second in
+    let C : List ℕ → List ℕ → ℕ → ℕ → Type 0 = λ r s a b. IsCombined r s a b row in
+    let by_rows = subst (λ (l : List ℕ). C (row_of rows i) l ((sums_of sums i).gain - (sums_of sums i).loss) ((sums_of sums k).loss - (sums_of sums k).gain)) s_is (subst (λ (l : List ℕ). C l s ((sums_of sums i).gain - (sums_of sums i).loss) ((sums_of sums k).loss - (sums_of sums k).gain)) r_is combined) in
+    let by_sums = subst (λ (b : ℕ). C (row_of rows i) (row_of rows k) (surplus m c (row_of rows i)) b) differ.1 (subst (λ (a : ℕ). C (row_of rows i) (row_of rows k) a ((sums_of sums k).loss - (sums_of sums k).gain)) differ.0 by_rows) in
+    combined_good m c (row_of rows i) (row_of rows k) row (step.basis.size i [] first) (step.basis.semiflow i [] first) (step.basis.semiflow k [] second) (pair_is m c rows sums i k step first second up down) by_sums
+
+pub pair_offered : (m : Matrix) (c : ℕ) (rows : List (List ℕ)) (sums : List RowSums) (i k : ℕ) (r s row : List ℕ) (old new : List (List ℕ)) → IsStep m c rows sums → i < length rows → k < length rows → (sums_of sums i).loss < (sums_of sums i).gain → (sums_of sums k).gain < (sums_of sums k).loss → r ≡ row_of rows i → s ≡ row_of rows k → IsCombined r s ((sums_of sums i).gain - (sums_of sums i).loss) ((sums_of sums k).loss - (sums_of sums k).gain) row → AreGood m c old → Offered old new row → Grows m c old new × IsMet m c new (row_of rows i) (row_of rows k)
+pair_offered m c rows sums i k r s row old new step first second up down r_is s_is combined good offered =
+    let fine = pair_good m c rows sums i k r s row step first second up down r_is s_is combined in
+    let both = offered_grows m c old new row good fine.0 offered in
+    (both.0, record {
+      below = (both.1.0, both.1.1, both.1.2, both.1.3, λ x under some. fine.1 x under (both.1.4 x under some));
+      narrow = fine.2;
+    })
