@@ -18,7 +18,7 @@ use Rattle.semiflow_elim.specs.Bases.{IsBasis, HasBelow, IsGood}
 use Rattle.semiflow_elim.specs.Candidates.{IsCombined, IsWideCombination, IsStep, AreGood, Grows, IsMet, sums_of}
 use Rattle.semiflow_elim.specs.Elimination.{IsPair, IsWidePair, IsNarrowPair, row_of, surplus, deficit, combination}
 use Rattle.semiflow_elim.specs.declared.signs.RowSums.{RowSums}
-use Rattle.semiflow_elim.proofs.CandidateLemmas.{Extends, pair_semiflow, divided_semiflow, divided_coprime, zero_factor, product_positive}
+use Rattle.semiflow_elim.proofs.CandidateLemmas.{Extends, zero_semiflow, pair_semiflow, divided_semiflow, divided_coprime, zero_factor, product_positive}
 
 pub gcd_positive : (a b g : ℕ) → IsGcd a b g → 0 < a → 0 < g
 gcd_positive a b g gcd positive = pos_of_dvd_of_pos gcd.0 positive
@@ -203,3 +203,22 @@ pair_offered m c rows sums i k r s row old new step first second up down r_is s_
       below = (both.1.0, both.1.1, both.1.2, both.1.3, λ x under some. fine.1 x under (both.1.4 x under some));
       narrow = fine.2;
     })
+
+-- offering a zero row
+pub zero_offered : (m : Matrix) (c : ℕ) (rows : List (List ℕ)) (sums : List RowSums) (i : ℕ) (row : List ℕ) (old new : List (List ℕ)) → IsStep m c rows sums → i < length rows → (sums_of sums i).gain ≡ (sums_of sums i).loss → row ≡ row_of rows i → AreGood m c old → Offered old new row → Grows m c old new × HasBelow m new (slice_index (row_of rows i))
+zero_offered m c rows sums i row old new step first same is good offered =
+    let gain = step.gains i first in
+    let loss = step.losses i first in
+    let fine : IsGood m (first_columns (c + 1)) (row_of rows i) = record {
+      size = step.basis.size i [] first;
+      semiflow = zero_semiflow m (first_columns c) (first_columns (c + 1)) c (slice_index (row_of rows i)) (first_extends c) (step.basis.semiflow i [] first) (omega arith);
+      coprime = step.basis.coprime i [] first;
+    } in
+    offered_grows m c old new (row_of rows i) good fine (subst (λ (l : List ℕ). Offered old new l) is offered)
+
+-- a row whose sums differ is no zero row
+pub not_zero : (m : Matrix) (c : ℕ) (rows : List (List ℕ)) (sums : List RowSums) (i : ℕ) → IsStep m c rows sums → i < length rows → ((sums_of sums i).gain ≡ (sums_of sums i).loss → ⊥) → gain_sum m c (slice_index (row_of rows i)) ≡ loss_sum m c (slice_index (row_of rows i)) → ⊥
+not_zero m c rows sums i step first differ zero_row =
+    let gain = step.gains i first in
+    let loss = step.losses i first in
+    differ (omega arith)

@@ -1,7 +1,7 @@
 -- The candidates of an elimination step, and what offering them to a pool leaves.
-use Rattle.std.specs.Prelude.{◌≡◌, ℕ, ◌+◌, ◌*◌, ◌/◌, ◌<◌, ◌≤◌, List, length, All, slice_index, slice_index_or}
+use Rattle.std.specs.Prelude.{◌≡◌, ℕ, ◌+◌, ◌*◌, ◌/◌, ◌<◌, ◌≤◌, ◌==◌, nat_lt, count_by, List, length, All, slice_index, slice_index_or}
 use Rattle.std.specs.Int.{IsGcd}
-use Rattle.incidence.specs.Matrix.{Matrix, gain_sum, loss_sum}
+use Rattle.incidence.specs.Matrix.{Matrix, AreNarrow, gain_sum, loss_sum}
 use Rattle.incidence.specs.Semiflow.{first_columns}
 use Rattle.semiflow_elim.specs.declared.signs.RowSums.{RowSums}
 use Rattle.semiflow_elim.specs.Arithmetic.{IsScaledSum, IsGcdOfAll, HasWideEntry}
@@ -62,3 +62,14 @@ pub record AllOffered (m : Matrix) (c : ℕ) (rows pool : List (List ℕ)) (n : 
   pub good : AreGood m c pool
   pub zeros : (i : ℕ) → i < n → gain_sum m c (slice_index (row_of rows i)) ≡ loss_sum m c (slice_index (row_of rows i)) → HasBelow m pool (slice_index (row_of rows i))
   pub pairs : (i k : ℕ) → i < n → k < length rows → IsPair m c (row_of rows i) (row_of rows k) → IsMet m c pool (row_of rows i) (row_of rows k)
+
+-- the two sums of the first n rows, which are narrow
+pub record AreSums (m : Matrix) (c : ℕ) (rows : List (List ℕ)) (sums : List RowSums) (n : ℕ) : Type 0 where
+  pub size : length sums ≡ n
+  pub gains : (k : ℕ) → k < n → (sums_of sums k).gain ≡ gain_sum m c (slice_index (row_of rows k))
+  pub losses : (k : ℕ) → k < n → (sums_of sums k).loss ≡ loss_sum m c (slice_index (row_of rows k))
+  pub narrow : (k : ℕ) → k < n → AreNarrow m c (slice_index (row_of rows k))
+
+-- the candidate count, read off the sums
+abbrev pub signs_total : List RowSums → ℕ
+signs_total sums = count_by (λ own. own.gain == own.loss) sums + count_by (λ own. nat_lt own.loss own.gain) sums * count_by (λ own. nat_lt own.gain own.loss) sums

@@ -4,3 +4,4 @@ pub mod Laws
 pub mod Elimination
 pub mod Arithmetic
 pub mod Candidates
+pub mod Tableaus

@@ -86,3 +86,55 @@ fn offer_pairs(
     }
     Ok(())
 }
+
+/// Offers row `i` where it is a zero row.
+fn offer_zero(
+    alloc: Global,
+    matrix: &Incidence,
+    column: usize,
+    rows: &[Vector],
+    sums: &[RowSums],
+    pool: &mut Pool,
+    i: usize,
+) -> Result<(), RowFault>
+    requires step { IsStep (matrix_of matrix.now) column rows.now sums.now }
+    requires good { AreGood (matrix_of matrix.now) column pool.old }
+    requires first { i < length rows.now }
+    ensures grows { OnOk result (Grows (matrix_of matrix.now) column pool.old pool.new) }
+    ensures met { OnOk result (gain_sum (matrix_of matrix.now) column (slice_index (row_of rows.now i)) ≡ loss_sum (matrix_of matrix.now) column (slice_index (row_of rows.now i)) → HasBelow (matrix_of matrix.now) pool.new (slice_index (row_of rows.now i))) }
+    ensures narrow { IfErr result (λ fault. fault ≡ RowFault.Wide → ⊥) }
+{
+    let own = sums[i];
+    if own.gain != own.loss {
+        return Ok(());
+    }
+    match rows[i].copy(alloc) {
+        Ok(row) => {
+            if pool.offer(row).is_err() {
+                return Err(RowFault::NoMemory);
+            }
+        }
+        Err(_) => return Err(RowFault::NoMemory),
+    }
+    Ok(())
+}
+
+/// Offers all candidates to an empty pool.
+pub(crate) fn offer_all(
+    alloc: Global,
+    matrix: &Incidence,
+    column: usize,
+    rows: &[Vector],
+    sums: &[RowSums],
+) -> Result<Pool, RowFault>
+    requires { IsStep (matrix_of matrix.now) column rows.now sums.now }
+    ensures ok { IfOk result (λ pool. AllOffered (matrix_of matrix.now) column rows.now pool (length rows.now)) }
+    ensures wide { IfErr result (λ fault. fault ≡ RowFault.Wide → (i : ℕ) × (k : ℕ) × (i < length rows.now) × (k < length rows.now) × IsWidePair (matrix_of matrix.now) column (row_of rows.now i) (row_of rows.now k)) }
+{
+    let mut pool = Pool::new(alloc);
+    for i in 0..rows.len() {
+        offer_zero(alloc, matrix, column, rows, sums, &mut pool, i)?;
+        offer_pairs(alloc, matrix, column, rows, sums, &mut pool, i)?;
+    }
+    Ok(pool)
+}

@@ -7,6 +7,8 @@ mod fault;
 mod laws;
 mod row_arithmetic;
 mod signs;
+mod tableau;
 
 pub use fault::ElimFault;
+pub use tableau::Tableau;
 pub use laws::{bases_are_minimal, minimal_ones_are_proportional};

@@ -1,6 +1,57 @@
+ghost use Rattle.std.specs.Prelude.{◌≡◌, ℕ, ◌<◌, ◌^◌, IfOk, IfErr, All, length};
+ghost use Rattle.incidence.specs.Tables.{matrix_of};
+ghost use Rattle.semiflow_elim.specs.Candidates.{AreSums, signs_total};
+ghost use Rattle.semiflow_elim.specs.Elimination.{FailsBy};
+
+use crate::fault::ElimFault;
+use incidence::{Incidence, WideSum};
+use net_values::Vector;
+use std::alloc::Global;
+
 /// The two sums of a row at a column.
 #[derive(Clone, Copy)]
 pub(crate) struct RowSums {
     pub gain: u128,
     pub loss: u128,
+}
+
+/// The two sums of each row at a column.
+pub(crate) fn row_sums(
+    alloc: Global,
+    matrix: &Incidence,
+    column: usize,
+    rows: &[Vector],
+) -> Result<Vec<RowSums>, ElimFault>
+    requires column { column < (matrix_of matrix.now).columns }
+    requires size { All (λ row. length row ≡ (matrix_of matrix.now).rows) rows.now }
+    ensures ok { IfOk result (λ sums. AreSums (matrix_of matrix.now) column rows.now sums.items (length rows.now)) }
+    ensures fails { (budget : ℕ) → IfErr result (FailsBy (matrix_of matrix.now) budget column rows.now) }
+{
+    let mut sums = Vec::new(alloc);
+    for row in rows {
+        match matrix.sums(row, column) {
+            Ok((gain, loss)) => {
+                let own = RowSums {
+                    gain: gain.unsigned_abs(),
+                    loss: loss.unsigned_abs(),
+                };
+                if sums.push(own).is_err() {
+                    return Err(ElimFault::NoMemory);
+                }
+            }
+            Err(WideSum) => return Err(ElimFault::WideSum(column)),
+        }
+    }
+    Ok(sums)
+}
+
+/// The number of zero rows and of pairs of a positive and a negative row.
+pub(crate) fn candidate_total(sums: &[RowSums]) -> u64
+    requires { length sums.now < 2 ^ 32 }
+    ensures { result ≡ signs_total sums.now }
+{
+    let zeros = sums.iter().filter(|own| own.gain == own.loss).count() as u64;
+    let positives = sums.iter().filter(|own| own.loss < own.gain).count() as u64;
+    let negatives = sums.iter().filter(|own| own.gain < own.loss).count() as u64;
+    zeros + positives * negatives
 }

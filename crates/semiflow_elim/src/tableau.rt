@@ -1,0 +1,105 @@
+ghost use Rattle.std.specs.Prelude.{◌≡◌, ℕ, ◌+◌, ◌<◌, ◌^◌, IfOk, OnOk, OnErr, IfErr, length};
+ghost use Rattle.incidence.specs.Semiflow.{first_columns};
+ghost use Rattle.incidence.specs.Tables.{matrix_of};
+ghost use Rattle.semiflow_elim.specs.Bases.{IsBasis, AreMinimal};
+ghost use Rattle.semiflow_elim.specs.Elimination.{Passes, FailsBy};
+
+use crate::candidates::offer_all;
+use crate::fault::ElimFault;
+use crate::row_arithmetic::RowFault;
+use crate::signs::{candidate_total, row_sums};
+use incidence::Incidence;
+use net_values::{Rows, Vector};
+use std::alloc::Global;
+use std::marker::Model;
+
+/// The semiflows of minimal support over the columns of a matrix that were taken.
+#[derive(Drop)]
+pub struct Tableau<'m> {
+    matrix: &'m Incidence,
+    alloc: Global,
+    done: usize,
+    rows: Rows,
+}
+
+impl<'m> Model for Tableau<'m> {
+    ghost use Rattle.semiflow_elim.specs.Tableaus.{TableauValue, IsTableau};
+
+    ghost Value = { TableauValue };
+
+    ghost view = { λ t. record { tables = t.matrix.now; done = t.done; rows = t.rows } };
+
+    ghost invariant = { λ t. IsTableau record { tables = t.matrix.now; done = t.done; rows = t.rows } };
+}
+
+impl<'m> Tableau<'m> {
+    /// The number of columns that were taken.
+    pub fn done(&self) -> usize
+        ensures value { result ≡ self.now.done }
+        ensures minimal { AreMinimal (matrix_of self.now.tables) (first_columns self.now.done) self.now.rows }
+    {
+        self.done
+    }
+
+    /// Takes the next column. A refusal leaves the tableau unchanged.
+    pub fn step(&mut self, rows: u32) -> Result<(), ElimFault>
+        requires { self.old.done < (matrix_of self.old.tables).columns }
+        ensures ok { OnOk result (self.new.done ≡ self.old.done + 1) }
+        ensures matrix { self.new.tables ≡ self.old.tables }
+        ensures passes { OnOk result (Passes (matrix_of self.old.tables) rows self.old.done self.old.rows) }
+        ensures err { OnErr result (self.new ≡ self.old) }
+        ensures fails { IfErr result (FailsBy (matrix_of self.old.tables) rows self.old.done self.old.rows) }
+    {
+        let next = next_rows(
+            self.alloc,
+            self.matrix,
+            self.done,
+            self.rows.as_slice(),
+            rows,
+        )?;
+        self.rows = next;
+        self.done += 1;
+        Ok(())
+    }
+
+    /// The rows, which are exactly the semiflows of minimal support over the columns that were taken.
+    pub fn into_rows(self) -> Rows
+        ensures rows { result ≡ self.rows }
+        ensures minimal { AreMinimal (matrix_of self.tables) (first_columns self.done) self.rows }
+    {
+        self.rows
+    }
+}
+
+/// The rows over one column more.
+fn next_rows(
+    alloc: Global,
+    matrix: &Incidence,
+    column: usize,
+    rows: &[Vector],
+    budget: u32,
+) -> Result<Rows, ElimFault>
+    requires column { column < (matrix_of matrix.now).columns }
+    requires basis { IsBasis (matrix_of matrix.now) (first_columns column) rows.now }
+    requires few { length rows.now < 2 ^ 32 }
+    ensures basis { IfOk result (λ next. IsBasis (matrix_of matrix.now) (first_columns (column + 1)) next) }
+    ensures few { IfOk result (λ next. length next < 2 ^ 32) }
+    ensures passes { OnOk result (Passes (matrix_of matrix.now) budget column rows.now) }
+    ensures fails { IfErr result (FailsBy (matrix_of matrix.now) budget column rows.now) }
+{
+    let sums = row_sums(alloc, matrix, column, rows)?;
+    let count = candidate_total(sums.as_slice());
+    if count > u64::from(budget) {
+        return Err(ElimFault::RowBudget(column, count));
+    }
+    match offer_all(alloc, matrix, column, rows, sums.as_slice()) {
+        Ok(pool) => {
+            if pool.rows().len() > u32::MAX as usize {
+                return Err(ElimFault::NoMemory);
+            }
+            Ok(pool.into_rows())
+        }
+        Err(RowFault::Wide) => Err(ElimFault::WideRow(column)),
+        Err(RowFault::NoMemory) => Err(ElimFault::NoMemory),
+    }
+}
