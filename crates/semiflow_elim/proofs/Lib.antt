@@ -6,3 +6,5 @@ pub mod Minimal
 pub mod Rows
 pub mod CandidateLemmas
 pub mod Pairs
+pub mod Steps
+pub mod Units

@@ -81,7 +81,7 @@ offered_grows m c old new row good fine offered =
           (below.0, below.1, below.2, below.3, λ i under some. has.4 i under (subst (λ (l : List ℕ). 0 < slice_index l i) old_is (below.4 i some)));
     }, (offered.offer_below.0, offered.offer_below.1, offered.offer_below.2, offered.offer_below.3, λ i under some. offered.offer_below.4 i some))
 
-first_extends : (c : ℕ) → Extends (first_columns c) c (first_columns (c + 1))
+pub first_extends : (c : ℕ) → Extends (first_columns c) c (first_columns (c + 1))
 first_extends c = record {
   old = λ j below. omega arith;
   new = omega arith;

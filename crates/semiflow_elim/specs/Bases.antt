@@ -1,5 +1,5 @@
 -- Lists of semiflows of minimal support.
-use Rattle.std.specs.Prelude.{◌≡◌, ◌↔◌, ℕ, List, length, All, AllPairs, Any, Contains, slice_index}
+use Rattle.std.specs.Prelude.{◌≡◌, ◌↔◌, ℕ, ◌<◌, List, length, replicate, slice_set, slice_index_or, All, AllPairs, Any, Contains, slice_index}
 use Rattle.support_prune.specs.Pools.{AreApart}
 use Rattle.incidence.specs.Matrix.{Matrix}
 use Rattle.incidence.specs.Semiflow.{IsWithin, IsSemiflow, IsCoprime, IsMinimal}
@@ -33,3 +33,8 @@ pub record IsGood (m : Matrix) (K : ℕ → Type 0) (row : List ℕ) : Type 0 wh
   pub size : length row ≡ m.rows
   pub semiflow : IsSemiflow m K (slice_index row)
   pub coprime : IsCoprime m (slice_index row)
+
+-- the first i rows of n entries each with a 1 at its own position and 0 elsewhere
+pub record AreUnits (n : ℕ) (rows : List (List ℕ)) (i : ℕ) : Type 0 where
+  pub count : length rows ≡ i
+  pub units : (k : ℕ) (d : List ℕ) → k < i → slice_index_or rows k d ≡ slice_set (replicate n 0) k 1

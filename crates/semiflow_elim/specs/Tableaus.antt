@@ -13,4 +13,5 @@ pub record TableauValue : Type 0 where
 pub record IsTableau (t : TableauValue) : Type 0 where
   pub taken : t.done ≤ (matrix_of t.tables).columns
   pub basis : IsBasis (matrix_of t.tables) (first_columns t.done) t.rows
+  pub short : (matrix_of t.tables).columns ≤ 4096
   pub few : length t.rows < 2 ^ 32

@@ -1,4 +1,4 @@
-ghost use Rattle.std.specs.Prelude.{◌≡◌, ℕ, ◌<◌, ◌^◌, IfOk, IfErr, All, length};
+ghost use Rattle.std.specs.Prelude.{◌≡◌, ℕ, ◌<◌, ◌^◌, IfOk, IfErr, All, length, ◌==◌, nat_lt, count_by};
 ghost use Rattle.incidence.specs.Tables.{matrix_of};
 ghost use Rattle.semiflow_elim.specs.Candidates.{AreSums, signs_total};
 ghost use Rattle.semiflow_elim.specs.Elimination.{FailsBy};
@@ -45,13 +45,37 @@ pub(crate) fn row_sums(
     Ok(sums)
 }
 
+/// The number of rows whose two sums are equal.
+fn zeros(sums: &[RowSums]) -> u64
+    requires { length sums.now < 2 ^ 32 }
+    ensures value { result ≡ count_by (λ own. own.gain == own.loss) sums.now }
+    ensures bound { result < 2 ^ 32 }
+{
+    sums.iter().filter(|own| own.gain == own.loss).count() as u64
+}
+
+/// The number of rows of positive sum.
+fn positives(sums: &[RowSums]) -> u64
+    requires { length sums.now < 2 ^ 32 }
+    ensures value { result ≡ count_by (λ own. nat_lt own.loss own.gain) sums.now }
+    ensures bound { result < 2 ^ 32 }
+{
+    sums.iter().filter(|own| own.loss < own.gain).count() as u64
+}
+
+/// The number of rows of negative sum.
+fn negatives(sums: &[RowSums]) -> u64
+    requires { length sums.now < 2 ^ 32 }
+    ensures value { result ≡ count_by (λ own. nat_lt own.gain own.loss) sums.now }
+    ensures bound { result < 2 ^ 32 }
+{
+    sums.iter().filter(|own| own.gain < own.loss).count() as u64
+}
+
 /// The number of zero rows and of pairs of a positive and a negative row.
 pub(crate) fn candidate_total(sums: &[RowSums]) -> u64
     requires { length sums.now < 2 ^ 32 }
     ensures { result ≡ signs_total sums.now }
 {
-    let zeros = sums.iter().filter(|own| own.gain == own.loss).count() as u64;
-    let positives = sums.iter().filter(|own| own.loss < own.gain).count() as u64;
-    let negatives = sums.iter().filter(|own| own.gain < own.loss).count() as u64;
-    zeros + positives * negatives
+    zeros(sums) + positives(sums) * negatives(sums)
 }

@@ -1,7 +1,7 @@
-ghost use Rattle.std.specs.Prelude.{◌≡◌, ℕ, ◌+◌, ◌<◌, ◌^◌, IfOk, OnOk, OnErr, IfErr, length};
+ghost use Rattle.std.specs.Prelude.{◌≡◌, ℕ, ◌+◌, ◌<◌, ◌≤◌, ◌^◌, IfOk, OnOk, OnErr, IfErr, length};
 ghost use Rattle.incidence.specs.Semiflow.{first_columns};
 ghost use Rattle.incidence.specs.Tables.{matrix_of};
-ghost use Rattle.semiflow_elim.specs.Bases.{IsBasis, AreMinimal};
+ghost use Rattle.semiflow_elim.specs.Bases.{IsBasis, AreMinimal, AreUnits};
 ghost use Rattle.semiflow_elim.specs.Elimination.{Passes, FailsBy};
 
 use crate::candidates::offer_all;
@@ -9,7 +9,7 @@ use crate::fault::ElimFault;
 use crate::row_arithmetic::RowFault;
 use crate::signs::{candidate_total, row_sums};
 use incidence::Incidence;
-use net_values::{Rows, Vector};
+use net_values::{NoMemory, Rows, Vector};
 use std::alloc::Global;
 use std::marker::Model;
 
@@ -33,6 +33,21 @@ impl<'m> Model for Tableau<'m> {
 }
 
 impl<'m> Tableau<'m> {
+    /// The tableau with no column taken.
+    pub fn start(alloc: Global, matrix: &'m Incidence) -> Result<Tableau<'m>, NoMemory>
+        ensures matrix { IfOk result (λ tableau. tableau.tables ≡ matrix.now) }
+        ensures done { IfOk result (λ tableau. tableau.done ≡ 0) }
+    {
+        let _columns = matrix.columns();
+        let rows = unit_rows(alloc, matrix.rows())?;
+        Ok(Tableau {
+            matrix,
+            alloc,
+            done: 0,
+            rows,
+        })
+    }
+
     /// The number of columns that were taken.
     pub fn done(&self) -> usize
         ensures value { result ≡ self.now.done }
@@ -64,8 +79,8 @@ impl<'m> Tableau<'m> {
 
     /// The rows, which are exactly the semiflows of minimal support over the columns that were taken.
     pub fn into_rows(self) -> Rows
-        ensures rows { result ≡ self.rows }
-        ensures minimal { AreMinimal (matrix_of self.tables) (first_columns self.done) self.rows }
+        ensures rows { result ≡ self.entry.rows }
+        ensures minimal { AreMinimal (matrix_of self.entry.tables) (first_columns self.entry.done) self.entry.rows }
     {
         self.rows
     }
@@ -102,4 +117,18 @@ fn next_rows(
         Err(RowFault::Wide) => Err(ElimFault::WideRow(column)),
         Err(RowFault::NoMemory) => Err(ElimFault::NoMemory),
     }
+}
+
+/// The rows with a 1 at one position each and 0 elsewhere.
+fn unit_rows(alloc: Global, count: usize) -> Result<Rows, NoMemory>
+    requires { count ≤ 4096 }
+    ensures { IfOk result (λ rows. AreUnits count rows count) }
+{
+    let mut rows = Rows::new(alloc);
+    for i in 0..count {
+        let mut row = Vector::zeros(alloc, count)?;
+        row.set(i, 1);
+        rows.push(row)?;
+    }
+    Ok(rows)
 }

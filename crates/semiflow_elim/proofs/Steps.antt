@@ -1,0 +1,66 @@
+-- A step as a whole: the signs that are read off the sums are those of the rows, and the pool of all
+-- candidates is a basis over one column more.
+use Rattle.std.proofs.Common.{◌≡◌, refl, sym, ap, ◌∙◌, subst, ℕ, zero, suc, ◌+◌, ◌*◌, ◌<◌, ◌==◌, nat_lt, Bool, cond, List, [], ◌∷◌, length, get_or, slice_index, count_by, All, AllPairs, arith}
+use Rattle.std.proofs.lemmas.List.{get_or_default}
+use Rattle.std.proofs.lemmas.List.Sums.{sum_by-cons}
+use Rattle.support_prune.specs.Pools.{IsPool}
+use Rattle.incidence.specs.Matrix.{Matrix, AreNarrow, gain_sum, loss_sum}
+use Rattle.incidence.specs.Semiflow.{first_columns}
+use Rattle.semiflow_elim.specs.Bases.{IsBasis}
+use Rattle.semiflow_elim.specs.Candidates.{IsStep, AreSums, AllOffered, sums_of, signs_total}
+use Rattle.semiflow_elim.specs.Elimination.{IsPair, candidate_count, row_of, is_zero, is_positive, is_negative}
+use Rattle.semiflow_elim.specs.declared.signs.RowSums.{RowSums}
+use Rattle.semiflow_elim.proofs.CandidateLemmas.{step_basis}
+use Rattle.semiflow_elim.proofs.Pairs.{first_extends}
+
+pub counts_same : {X Y : Type 0} (p : X → Bool) (q : Y → Bool) (xs : List X) (ys : List Y) → length xs ≡ length ys → ((k : ℕ) (d : X) (e : Y) → k < length xs → p (get_or xs k d) ≡ q (get_or ys k e)) → count_by p xs ≡ count_by q ys
+counts_same p q [] [] size each = refl
+counts_same p q [] (y ∷ ys) size each = absurd (omega arith)
+counts_same p q (x ∷ xs) [] size each = absurd (omega arith)
+counts_same p q (x ∷ xs) (y ∷ ys) size each =
+    let first : cond (p x) 1 0 ≡ cond (q y) 1 0 = ap (λ (b : Bool). cond {A = ℕ} b 1 0) (each 0 x y (omega arith)) in
+    let rest = counts_same p q xs ys (omega arith) (λ k d e under. each (suc k) d e (omega arith)) in
+    let left = sum_by-cons (λ x. cond {A = ℕ} (p x) 1 0) x xs in
+    let right = sum_by-cons (λ y. cond {A = ℕ} (q y) 1 0) y ys in
+    omega (arith, first, rest, left, right)
+
+module _ (m : Matrix) (c : ℕ) (rows : List (List ℕ)) (sums : List RowSums) (h : AreSums m c rows sums (length rows)) where
+  gain_at : (k : ℕ) (d : RowSums) (e : List ℕ) → k < length sums → (get_or sums k d).gain ≡ gain_sum m c (slice_index (get_or rows k e))
+  gain_at k d e under =
+      let size = h.size in
+      ap (λ (own : RowSums). own.gain) (get_or_default sums k d record { gain = 0; loss = 0 } under) ∙ h.gains k (omega arith)
+      ∙ ap (λ (row : List ℕ). gain_sum m c (slice_index row)) (get_or_default rows k [] e (omega arith))
+
+  loss_at : (k : ℕ) (d : RowSums) (e : List ℕ) → k < length sums → (get_or sums k d).loss ≡ loss_sum m c (slice_index (get_or rows k e))
+  loss_at k d e under =
+      let size = h.size in
+      ap (λ (own : RowSums). own.loss) (get_or_default sums k d record { gain = 0; loss = 0 } under) ∙ h.losses k (omega arith)
+      ∙ ap (λ (row : List ℕ). loss_sum m c (slice_index row)) (get_or_default rows k [] e (omega arith))
+
+  pub total_is : signs_total sums ≡ candidate_count m c rows
+  total_is =
+      let zeros = counts_same (λ (own : RowSums). own.gain == own.loss) (is_zero m c) sums rows h.size (λ k d e under. ap (λ (g : ℕ). g == (get_or sums k d).loss) (gain_at k d e under) ∙ ap (λ (l : ℕ). gain_sum m c (slice_index (get_or rows k e)) == l) (loss_at k d e under)) in
+      let positives = counts_same (λ (own : RowSums). nat_lt own.loss own.gain) (is_positive m c) sums rows h.size (λ k d e under. ap (λ (g : ℕ). nat_lt (get_or sums k d).loss g) (gain_at k d e under) ∙ ap (λ (l : ℕ). nat_lt l (gain_sum m c (slice_index (get_or rows k e)))) (loss_at k d e under)) in
+      let negatives = counts_same (λ (own : RowSums). nat_lt own.gain own.loss) (is_negative m c) sums rows h.size (λ k d e under. ap (λ (g : ℕ). nat_lt g (get_or sums k d).loss) (gain_at k d e under) ∙ ap (λ (l : ℕ). nat_lt (gain_sum m c (slice_index (get_or rows k e))) l) (loss_at k d e under)) in
+      ap (λ (z : ℕ). z + count_by (λ (own : RowSums). nat_lt own.loss own.gain) sums * count_by (λ (own : RowSums). nat_lt own.gain own.loss) sums) zeros
+      ∙ ap (λ (p : ℕ). count_by (is_zero m c) rows + p * count_by (λ (own : RowSums). nat_lt own.gain own.loss) sums) positives
+      ∙ ap (λ (n : ℕ). count_by (is_zero m c) rows + count_by (is_positive m c) rows * n) negatives
+
+  pub all_narrow : All (λ row. AreNarrow m c (slice_index row)) rows
+  all_narrow k d under = subst (λ (row : List ℕ). AreNarrow m c (slice_index row)) (get_or_default rows k [] d under) (h.narrow k under)
+
+  pub sums_step : c < m.columns → IsBasis m (first_columns c) rows → IsStep m c rows sums
+  sums_step column basis = record {
+    column = column;
+    basis = basis;
+    size = h.size;
+    gains = h.gains;
+    losses = h.losses;
+  }
+
+pub pool_basis : (m : Matrix) (c : ℕ) (rows pool : List (List ℕ)) → c < m.columns → IsBasis m (first_columns c) rows → IsPool pool → AllOffered m c rows pool (length rows) → IsBasis m (first_columns (c + 1)) pool
+pool_basis m c rows pool column basis is_pool offered =
+    step_basis m (first_columns c) (first_columns (c + 1)) c rows pool column (first_extends c) basis offered.good is_pool.antichain record {
+      zeros = offered.zeros;
+      pairs = λ i k first second up down. (offered.pairs i k first second record { positive = up; negative = down }).below;
+    }

@@ -1,0 +1,11 @@
+use Rattle.std.proofs.Common.{subst}
+use Rattle.incidence.specs.Semiflow.{first_columns}
+use Rattle.incidence.specs.Tables.{matrix_of}
+use Rattle.semiflow_elim.specs.Bases.{AreMinimal}
+use Rattle.semiflow_elim.specs.Tableaus.{TableauValue}
+use Rattle.semiflow_elim.proofs.Rows.{basis_minimal}
+use Rattle.semiflow_elim.proofs.tableau.Tableau.into_rows.Goals as goal
+
+pub returns-clause-minimal : goal.returns-clause-minimal
+returns-clause-minimal c =
+    subst (λ (t : TableauValue). AreMinimal (matrix_of t.tables) (first_columns t.done) t.rows) c.self.view_is (basis_minimal _ _ _ c.self.invariant.basis)

@@ -1,0 +1,42 @@
+use Rattle.std.proofs.Common.{◌≡◌, refl, sym, ap, ◌∙◌, subst, List, ℕ, ◌+◌, length, arith}
+use Rattle.std.proofs.lemmas.Result.{err_from_is_err_and}
+use Rattle.incidence.specs.Semiflow.{first_columns}
+use Rattle.incidence.specs.Tables.{matrix_of}
+use Rattle.semiflow_elim.specs.Bases.{IsBasis}
+use Rattle.semiflow_elim.specs.Candidates.{AreSums, signs_total}
+use Rattle.semiflow_elim.proofs.Steps.{total_is, all_narrow, pool_basis}
+use Rattle.semiflow_elim.proofs.tableau.next_rows.Goals as goal
+
+pub returns-in_err-sums-clause-fails : goal.returns-in_err-sums-clause-fails
+returns-in_err-sums-clause-fails c =
+    let p = err_from_is_err_and c.from_residual.result c.from_residual.ensures.1 in
+    rw (p.1, p.2) (c.in_err-sums.ensures.fails c.args.budget)
+
+pub returns-then-count-from-clause-fails : goal.returns-then-count-from-clause-fails
+returns-then-count-from-clause-fails c =
+    let m = matrix_of c.args.matrix.now in
+    (refl, all_narrow m c.args.column c.args.rows.now c.in_ok-sums.sums.items c.in_ok-sums.ensures.ok,
+    c.candidate_total-count.ensures ∙ ap signs_total c.as_slice.ensures.value ∙ total_is m c.args.column c.args.rows.now c.in_ok-sums.sums.items c.in_ok-sums.ensures.ok,
+    omega arith)
+
+pub returns-in-Ok-clause-basis : goal.returns-in-Ok-clause-basis
+returns-in-Ok-clause-basis c =
+    let m = matrix_of c.args.matrix.now in
+    subst (IsBasis m (first_columns (c.args.column + 1))) (sym c.into_rows.ensures.rows)
+    (pool_basis m c.args.column c.args.rows.now _ c.requires.column c.requires.basis c.into_rows.ensures.pool c.in-Ok.ensures.ok)
+
+pub returns-in-Ok-clause-passes : goal.returns-in-Ok-clause-passes
+returns-in-Ok-clause-passes c =
+    let m = matrix_of c.args.matrix.now in
+    let count = c.candidate_total-count.ensures ∙ ap signs_total c.as_slice.ensures.value ∙ total_is m c.args.column c.args.rows.now c.in_ok-sums.sums.items c.in_ok-sums.ensures.ok in
+    record {
+      sums = all_narrow m c.args.column c.args.rows.now c.in_ok-sums.sums.items c.in_ok-sums.ensures.ok;
+      budget_met = omega (arith, count);
+      pairs = λ i k first second pair. (c.in-Ok.ensures.ok.pairs i k first second pair).narrow;
+    }
+
+pub returns-in-Err-Wide-clause-fails : goal.returns-in-Err-Wide-clause-fails
+returns-in-Err-Wide-clause-fails c =
+    let m = matrix_of c.args.matrix.now in
+    let count = c.candidate_total-count.ensures ∙ ap signs_total c.as_slice.ensures.value ∙ total_is m c.args.column c.args.rows.now c.in_ok-sums.sums.items c.in_ok-sums.ensures.ok in
+    (refl, all_narrow m c.args.column c.args.rows.now c.in_ok-sums.sums.items c.in_ok-sums.ensures.ok, omega (arith, count), c.in-Err-Wide.ensures.wide c.in-Err-Wide.field-0-is)
