@@ -13,15 +13,15 @@ zero_read : (n i : ℕ) → slice_index (replicate n 0) i ≡ 0
 zero_read n i =
     elim (cases_lt i n) [
       | inl under ↦ get_or-replicate n i 0 0 under
-      | inr past ↦ get_or_past (replicate n 0) i 0 (omega (arith, length-replicate n 0))
+      | inr past ↦ get_or_past (replicate n 0) i 0 (omega (arith, length-replicate {A = ℕ} n 0))
     ]
 
 unit_here : (n k : ℕ) → k < n → slice_index (set (replicate n 0) k 1) k ≡ 1
-unit_here n k within = let inside : k < length (replicate n 0) = omega (arith, length-replicate n 0) in get_or-set_same (replicate n 0) k 1 0 inside
+unit_here n k within = let inside : k < length (replicate n 0) = omega (arith, length-replicate {A = ℕ} n 0) in get_or-set_same (replicate n 0) k 1 0 inside
 
 unit_elsewhere : (n k i : ℕ) → (i ≡ k → ⊥) → slice_index (set (replicate n 0) k 1) i ≡ 0
 unit_elsewhere n k i other =
-    get_or-set_other (replicate n 0) i k 1 0 other ∙ zero_read n i
+    get_or-set_other (replicate n 0) k i 1 0 other ∙ zero_read n i
 
 unit_only : (n k i : ℕ) → 0 < slice_index (set (replicate n 0) k 1) i → i ≡ k
 unit_only n k i some =
@@ -36,7 +36,7 @@ units_apart n i j other within some = other (unit_only n j i some)
 
 pub units_basis : (m : Matrix) (rows : List (List ℕ)) → AreUnits m.rows rows m.rows → IsBasis m (first_columns 0) rows
 units_basis m rows h = record {
-  size = λ k d within. let count = h.count in ap length (h.units k d (omega arith)) ∙ length-set (replicate m.rows 0) k 1 ∙ length-replicate m.rows 0;
+  size = λ k d within. let count = h.count in ap length (h.units k d (omega arith)) ∙ length-set (replicate m.rows 0) k 1 ∙ length-replicate {A = ℕ} m.rows 0;
   semiflow = λ k d within.
       let count = h.count in
       record {

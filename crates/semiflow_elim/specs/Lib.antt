@@ -5,3 +5,4 @@ pub mod Elimination
 pub mod Arithmetic
 pub mod Candidates
 pub mod Tableaus
+pub mod FirstFail

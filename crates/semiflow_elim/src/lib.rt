@@ -3,12 +3,14 @@
 #![tactic(auto)]
 
 mod candidates;
+mod elimination;
 mod fault;
 mod laws;
 mod row_arithmetic;
 mod signs;
 mod tableau;
 
+pub use elimination::minimal_semiflows;
 pub use fault::ElimFault;
 pub use tableau::Tableau;
 pub use laws::{bases_are_minimal, minimal_ones_are_proportional};
