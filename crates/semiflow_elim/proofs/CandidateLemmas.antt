@@ -54,9 +54,9 @@ pub pair_semiflow : (m : Matrix) (K K' : ℕ → Type 0) (c : ℕ) (p r s : ℕ 
 pair_semiflow m K K' c p r s x y a b more r_flow s_flow r_over s_under cancels positive entries =
     extended m K K' c p more
     (let some = r_flow.nonzero in
-     let product = product_positive x (r some.0) positive some.2 in
-     let entry = entries some.0 some.1 in
-     (some.0, some.1, omega arith))
+    let product = product_positive x (r some.0) positive some.2 in
+    let entry = entries some.0 some.1 in
+    (some.0, some.1, omega arith))
     (λ j q k. joined_old _ _ _ _ _ _ x y (weighted_join m.rows (λ i. m.gain i j) p r s x y entries) (weighted_join m.rows (λ i. m.loss i j) p r s x y entries) (r_flow.balanced j q k) (s_flow.balanced j q k))
     (joined_new _ _ _ _ _ _ x y a b (weighted_join m.rows (λ i. m.gain i c) p r s x y entries) (weighted_join m.rows (λ i. m.loss i c) p r s x y entries) r_over s_under cancels)
 
@@ -124,10 +124,10 @@ step_basis m K K' c rows pool column more basis good apart met = record {
             let down_is = row_is rows down.0 down.1 in
             below_trans m pool _ y
             (met.pairs up.1.at down.1.at up.1.within down.1.within
-              (subst (λ (r : ℕ → ℕ). loss_sum m c r < gain_sum m c r) up_is up.3)
-              (subst (λ (r : ℕ → ℕ). gain_sum m c r < loss_sum m c r) down_is down.3))
+            (subst (λ (r : ℕ → ℕ). loss_sum m c r < gain_sum m c r) up_is up.3)
+            (subst (λ (r : ℕ → ℕ). gain_sum m c r < loss_sum m c r) down_is down.3))
             (λ i under some. either_within _ _ (y i)
-              (subst (λ (r : ℕ → ℕ). IsWithin m r y) up_is up.2 i under)
-              (subst (λ (r : ℕ → ℕ). IsWithin m r y) down_is down.2 i under) some)
+            (subst (λ (r : ℕ → ℕ). IsWithin m r y) up_is up.2 i under)
+            (subst (λ (r : ℕ → ℕ). IsWithin m r y) down_is down.2 i under) some)
       ];
 }

@@ -69,17 +69,19 @@ taken after items len is = ap (λ (n : ℕ). take n (after ++ drop (length after
 
 -- what an offer of a good row leaves
 pub offered_grows : (m : Matrix) (c : ℕ) (old new : List (List ℕ)) (row : List ℕ) → AreGood m c old → IsGood m (first_columns (c + 1)) row → Offered old new row → Grows m c old new × HasBelow m new (slice_index row)
-offered_grows m c old new row good fine offered =
-    (record {
-      good = λ k d within. elim (offered.drawn k d within) [
-        | inl here ↦ All-contains (IsGood m (first_columns (c + 1))) old (get_or new k d) good here
-        | inr same ↦ subst (IsGood m (first_columns (c + 1))) (sym same) fine
-      ];
-      kept = λ y has.
-          let below = offered.kept_below has.0 has.1 has.2 in
-          let old_is : get_or old has.0 has.1 ≡ has.1 = has.3 in
-          (below.0, below.1, below.2, below.3, λ i under some. has.4 i under (subst (λ (l : List ℕ). 0 < slice_index l i) old_is (below.4 i some)));
-    }, (offered.offer_below.0, offered.offer_below.1, offered.offer_below.2, offered.offer_below.3, λ i under some. offered.offer_below.4 i some))
+offered_grows m c old new row good fine offered = (
+  record {
+    good = λ k d within. elim (offered.drawn k d within) [
+      | inl here ↦ All-contains (IsGood m (first_columns (c + 1))) old (get_or new k d) good here
+      | inr same ↦ subst (IsGood m (first_columns (c + 1))) (sym same) fine
+    ];
+    kept = λ y has.
+        let below = offered.kept_below has.0 has.1 has.2 in
+        let old_is : get_or old has.0 has.1 ≡ has.1 = has.3 in
+        (below.0, below.1, below.2, below.3, λ i under some. has.4 i under (subst (λ (l : List ℕ). 0 < slice_index l i) old_is (below.4 i some)));
+  },
+  (offered.offer_below.0, offered.offer_below.1, offered.offer_below.2, offered.offer_below.3, λ i under some. offered.offer_below.4 i some),
+)
 
 pub first_extends : (c : ℕ) → Extends (first_columns c) c (first_columns (c + 1))
 first_extends c = record {
@@ -120,27 +122,28 @@ combined_good m c r s row size r_flow s_flow pair h =
     let some = r_flow.nonzero in
     let divisor : 0 < h.divisor = divisor_positive x y r s h.sums h.divisor h.sums_are h.divisor_is (some.0, omega (arith, some.1), some.2) x_positive in
     let flow : IsSemiflow m (first_columns (c + 1)) (slice_index h.sums) =
-        pair_semiflow m (first_columns c) (first_columns (c + 1)) c (slice_index h.sums) (slice_index r) (slice_index s) x y a b (first_extends c) r_flow s_flow (omega arith) (omega arith) (cross a b h.g h.gcd) x_positive (λ i under. h.sums_are.entries i (omega arith))
+    pair_semiflow m (first_columns c) (first_columns (c + 1)) c (slice_index h.sums) (slice_index r) (slice_index s) x y a b (first_extends c) r_flow s_flow (omega arith) (omega arith) (cross a b h.g h.gcd) x_positive (λ i under. h.sums_are.entries i (omega arith))
     in
     let entries : (i : ℕ) → i < m.rows → slice_index h.sums i ≡ h.divisor * slice_index row i =
-        λ i under. quotient_entry (slice_index h.sums i) h.divisor (slice_index row i) (h.entries i) (h.divisor_is.divides i (omega arith))
-    in
-    (record {
-      size = h.size ∙ size;
-      semiflow = divided_semiflow m (first_columns (c + 1)) (slice_index h.sums) (slice_index row) h.divisor divisor entries flow;
-      coprime = divided_coprime m (slice_index h.sums) (slice_index row) h.divisor divisor entries (λ e each. h.divisor_is.greatest e (λ i under. each i (omega arith)));
-    },
-    λ i under more.
-      let entry = entries i under in
-      let sum = h.sums_are.entries i (omega arith) in
-      let inside : 0 < h.divisor * slice_index row i = product_positive h.divisor (slice_index row i) divisor more in
-      either_positive x (slice_index r i) y (slice_index s i) (omega arith),
-    λ g gcd i under.
-      let same : g ≡ h.g = same_from_IsGcd a b g h.g gcd h.gcd in
-      let at : combination m c g r s i ≡ combination m c h.g r s i = ap (λ (z : ℕ). combination m c z r s i) same in
-      let entry : slice_index h.sums i ≡ combination m c h.g r s i = h.sums_are.entries i (omega arith) in
-      let narrow : slice_index h.sums i < 2 ^ 127 = h.sums_are.narrow i (omega arith) in
-      omega arith)
+    λ i under. quotient_entry (slice_index h.sums i) h.divisor (slice_index row i) (h.entries i) (h.divisor_is.divides i (omega arith))
+    in (
+      record {
+        size = h.size ∙ size;
+        semiflow = divided_semiflow m (first_columns (c + 1)) (slice_index h.sums) (slice_index row) h.divisor divisor entries flow;
+        coprime = divided_coprime m (slice_index h.sums) (slice_index row) h.divisor divisor entries (λ e each. h.divisor_is.greatest e (λ i under. each i (omega arith)));
+      },
+      λ i under more.
+          let entry = entries i under in
+          let sum = h.sums_are.entries i (omega arith) in
+          let inside : 0 < h.divisor * slice_index row i = product_positive h.divisor (slice_index row i) divisor more in
+          either_positive x (slice_index r i) y (slice_index s i) (omega arith),
+      λ g gcd i under.
+          let same : g ≡ h.g = same_from_IsGcd a b g h.g gcd h.gcd in
+          let at : combination m c g r s i ≡ combination m c h.g r s i = ap (λ (z : ℕ). combination m c z r s i) same in
+          let entry : slice_index h.sums i ≡ combination m c h.g r s i = h.sums_are.entries i (omega arith) in
+          let narrow : slice_index h.sums i < 2 ^ 127 = h.sums_are.narrow i (omega arith) in
+          omega arith,
+    )
 
 -- the differences that the code forms are those of the rows
 pub differences : (m : Matrix) (c : ℕ) (rows : List (List ℕ)) (sums : List RowSums) (i k : ℕ) → IsStep m c rows sums → i < length rows → k < length rows → ((sums_of sums i).gain - (sums_of sums i).loss ≡ surplus m c (row_of rows i)) × ((sums_of sums k).loss - (sums_of sums k).gain ≡ deficit m c (row_of rows k))
@@ -198,11 +201,13 @@ pair_good m c rows sums i k r s row step first second up down r_is s_is combined
 pub pair_offered : (m : Matrix) (c : ℕ) (rows : List (List ℕ)) (sums : List RowSums) (i k : ℕ) (r s row : List ℕ) (old new : List (List ℕ)) → IsStep m c rows sums → i < length rows → k < length rows → (sums_of sums i).loss < (sums_of sums i).gain → (sums_of sums k).gain < (sums_of sums k).loss → r ≡ row_of rows i → s ≡ row_of rows k → IsCombined r s ((sums_of sums i).gain - (sums_of sums i).loss) ((sums_of sums k).loss - (sums_of sums k).gain) row → AreGood m c old → Offered old new row → Grows m c old new × IsMet m c new (row_of rows i) (row_of rows k)
 pair_offered m c rows sums i k r s row old new step first second up down r_is s_is combined good offered =
     let fine = pair_good m c rows sums i k r s row step first second up down r_is s_is combined in
-    let both = offered_grows m c old new row good fine.0 offered in
-    (both.0, record {
-      below = (both.1.0, both.1.1, both.1.2, both.1.3, λ x under some. fine.1 x under (both.1.4 x under some));
-      narrow = fine.2;
-    })
+    let both = offered_grows m c old new row good fine.0 offered in (
+      both.0,
+      record {
+        below = (both.1.0, both.1.1, both.1.2, both.1.3, λ x under some. fine.1 x under (both.1.4 x under some));
+        narrow = fine.2;
+      },
+    )
 
 -- offering a zero row
 pub zero_offered : (m : Matrix) (c : ℕ) (rows : List (List ℕ)) (sums : List RowSums) (i : ℕ) (row : List ℕ) (old new : List (List ℕ)) → IsStep m c rows sums → i < length rows → (sums_of sums i).gain ≡ (sums_of sums i).loss → row ≡ row_of rows i → AreGood m c old → Offered old new row → Grows m c old new × HasBelow m new (slice_index (row_of rows i))

@@ -40,8 +40,8 @@ flat_rows m K rows h p q p_row q_row within =
     let d : List ℕ = q_row.default in
     let p_is : p ≡ slice_index (get_or rows p_row.at d) = p_row.same ∙ ap slice_index (get_or_default rows p_row.at p_row.default d p_row.within) in
     let inside : (i : ℕ) → 0 < slice_index (get_or rows p_row.at d) i → 0 < slice_index (get_or rows q_row.at d) i =
-        λ i some. long_within m (get_or rows p_row.at d) (get_or rows q_row.at d) (h.size p_row.at d p_row.within)
-            (λ k under positive. subst (λ (f : ℕ → ℕ). 0 < f k) q_row.same (within k under (subst (λ (f : ℕ → ℕ). 0 < f k) (sym p_is) positive))) i some
+    λ i some. long_within m (get_or rows p_row.at d) (get_or rows q_row.at d) (h.size p_row.at d p_row.within)
+    (λ k under positive. subst (λ (f : ℕ → ℕ). 0 < f k) q_row.same (within k under (subst (λ (f : ℕ → ℕ). 0 < f k) (sym p_is) positive))) i some
     in
     elim (cases_order p_row.at q_row.at) [
       | inl equal ↦ λ i under positive. subst (λ (f : ℕ → ℕ). 0 < f i) (q_row.same ∙ ap (λ (k : ℕ). slice_index (get_or rows k d)) (sym equal) ∙ sym p_is) positive
@@ -66,16 +66,17 @@ basis_flat m K rows h = record {
 pub basis_minimal : (m : Matrix) (K : ℕ → Type 0) (rows : List (List ℕ)) → IsBasis m K rows → AreMinimal m K rows
 basis_minimal m K rows h = record {
   members = λ x. (
-      λ here. record {
-        size = ap length (sym here.2) ∙ h.size here.0 x here.1;
-        minimal = row_minimal m K (IsRow rows) (basis_flat m K rows h) (slice_index x) record { at = here.0; default = x; within = here.1; same = ap slice_index (sym here.2) };
-      },
-      λ minimal.
+    λ here. record {
+      size = ap length (sym here.2) ∙ h.size here.0 x here.1;
+      minimal = row_minimal m K (IsRow rows) (basis_flat m K rows h) (slice_index x) record { at = here.0; default = x; within = here.1; same = ap slice_index (sym here.2) };
+    },
+    λ minimal.
         let found = minimal_row m K (IsRow rows) (basis_flat m K rows h) (slice_index x) minimal.minimal in
         let row = found.1 in
         let size = h.size row.at row.default row.within in
         let other = minimal.size in
         let default = get_or_default rows row.at x row.default row.within in
-        (row.at, row.within, default ∙ same_lists (get_or rows row.at row.default) x (size ∙ sym other) (λ i under. ap (λ (f : ℕ → ℕ). f i) (sym row.same) ∙ found.2 i (omega arith))));
+        (row.at, row.within, default ∙ same_lists (get_or rows row.at row.default) x (size ∙ sym other) (λ i under. ap (λ (f : ℕ → ℕ). f i) (sym row.same) ∙ found.2 i (omega arith))),
+  );
   once = λ i j d before within equal. (h.apart i j d before within).forth (λ k some. subst (λ (row : List ℕ). 0 < slice_index row k) equal some);
 }

@@ -65,9 +65,9 @@ module _ (m : Matrix) (K : ℕ → Type 0) (Row : (ℕ → ℕ) → Type 0) (cov
         | inr other ↦
             let d : Reduced m.rows y r = reduced m.rows y r row.nonzero.0 row.nonzero.1 row.nonzero.2 in
             let sign : weighted m.rows g d.rest < weighted m.rows f d.rest =
-                rest_positive _ _ _ _ _ _ (r d.at) (y d.at)
-                (weighted_split m.rows f d.rest r y (r d.at) (y d.at) d.splits)
-                (weighted_split m.rows g d.rest r y (r d.at) (y d.at) d.splits) other above d.positive
+            rest_positive _ _ _ _ _ _ (r d.at) (y d.at)
+            (weighted_split m.rows f d.rest r y (r d.at) (y d.at) d.splits)
+            (weighted_split m.rows g d.rest r y (r d.at) (y d.at) d.splits) other above d.positive
             in
             let some = some_entry m.rows f d.rest (omega arith) in
             let less = reduced_size m.rows y r d found.2 in

@@ -57,8 +57,11 @@ units_basis m rows h = record {
   below = λ y flow.
       let count = h.count in
       let some = flow.nonzero in
-      let is = h.units some.0 [] (omega (arith, some.1)) in
-      (some.0, get_or rows some.0 [], omega (arith, some.1), get_or_default rows some.0 _ [] (omega (arith, some.1)),
-      λ i under positive. subst (λ (j : ℕ). 0 < y j) (sym (unit_only m.rows some.0 i (subst (λ (row : List ℕ). 0 < slice_index row i) is positive))) some.2);
+      let is = h.units some.0 [] (omega (arith, some.1)) in (
+        some.0,
+        get_or rows some.0 [],
+        omega (arith, some.1),
+        get_or_default rows some.0 _ [] (omega (arith, some.1)),
+        λ i under positive. subst (λ (j : ℕ). 0 < y j) (sym (unit_only m.rows some.0 i (subst (λ (row : List ℕ). 0 < slice_index row i) is positive))) some.2,
+      );
 }
-

@@ -68,4 +68,4 @@ FailsBy m budget c rows NoMemory = Unit {0}
 FailsBy m budget c rows (WideSum j) = (j ≡ c) × Any (λ row. AreNarrow m c (slice_index row) → ⊥) rows
 FailsBy m budget c rows (RowBudget j count) = (j ≡ c) × All (λ row. AreNarrow m c (slice_index row)) rows × (count ≡ candidate_count m c rows) × (budget < count)
 FailsBy m budget c rows (WideRow j) = (j ≡ c) × All (λ row. AreNarrow m c (slice_index row)) rows × (candidate_count m c rows ≤ budget)
-  × ((i : ℕ) × (k : ℕ) × (i < length rows) × (k < length rows) × IsWidePair m c (row_of rows i) (row_of rows k))
+    × ((i : ℕ) × (k : ℕ) × (i < length rows) × (k < length rows) × IsWidePair m c (row_of rows i) (row_of rows k))

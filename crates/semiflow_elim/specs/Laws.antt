@@ -21,4 +21,3 @@ MinimalOnesAreProportional = (m : Matrix) (taken : ℕ → Bool) (y z : ℕ → 
 
 abbrev pub BasesAreMinimal : Type 0
 BasesAreMinimal = (m : Matrix) (taken : ℕ → Bool) (rows : List (List ℕ)) → IsBasis m (is_in taken) rows → AreMinimal m (is_in taken) rows
-

@@ -15,11 +15,7 @@ use std::alloc::Global;
 
 /// The semiflows of minimal support with coprime entries, in ascending lexicographic order of their
 /// entries, or the failure of the first step that fails.
-pub fn minimal_semiflows(
-    alloc: Global,
-    matrix: &Incidence,
-    rows: u32,
-) -> Result<Rows, ElimFault>
+pub fn minimal_semiflows(alloc: Global, matrix: &Incidence, rows: u32) -> Result<Rows, ElimFault>
     ensures sorted { IfOk result (λ list. IsSorted (slice_cmp nat_cmp) list) }
     ensures minimal { IfOk result (λ list. (unsorted : List (List ℕ)) × AreMinimal (matrix_of matrix.now) (first_columns (matrix_of matrix.now).columns) unsorted × IsPermutation unsorted list) }
     ensures passes { OnOk result ((j : ℕ) → j < (matrix_of matrix.now).columns → StepPasses (matrix_of matrix.now) rows j) }

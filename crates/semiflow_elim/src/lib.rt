@@ -12,5 +12,5 @@ mod tableau;
 
 pub use elimination::minimal_semiflows;
 pub use fault::ElimFault;
-pub use tableau::Tableau;
 pub use laws::{bases_are_minimal, minimal_ones_are_proportional};
+pub use tableau::Tableau;

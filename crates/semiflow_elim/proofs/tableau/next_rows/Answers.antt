@@ -14,10 +14,12 @@ returns-in_err-sums-clause-fails c =
 
 pub returns-then-count-from-clause-fails : goal.returns-then-count-from-clause-fails
 returns-then-count-from-clause-fails c =
-    let m = matrix_of c.args.matrix.now in
-    (refl, all_narrow m c.args.column c.args.rows.now c.in_ok-sums.sums.items c.in_ok-sums.ensures.ok,
-    c.candidate_total-count.ensures ∙ ap signs_total c.as_slice.ensures.value ∙ total_is m c.args.column c.args.rows.now c.in_ok-sums.sums.items c.in_ok-sums.ensures.ok,
-    omega arith)
+    let m = matrix_of c.args.matrix.now in (
+      refl,
+      all_narrow m c.args.column c.args.rows.now c.in_ok-sums.sums.items c.in_ok-sums.ensures.ok,
+      c.candidate_total-count.ensures ∙ ap signs_total c.as_slice.ensures.value ∙ total_is m c.args.column c.args.rows.now c.in_ok-sums.sums.items c.in_ok-sums.ensures.ok,
+      omega arith,
+    )
 
 pub returns-in-Ok-clause-basis : goal.returns-in-Ok-clause-basis
 returns-in-Ok-clause-basis c =
