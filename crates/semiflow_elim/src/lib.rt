@@ -9,6 +9,8 @@ mod laws;
 mod row_arithmetic;
 mod signs;
 mod tableau;
+#[cfg(test)]
+mod tests;
 
 pub use elimination::minimal_semiflows;
 pub use fault::ElimFault;
