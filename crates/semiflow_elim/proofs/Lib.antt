@@ -8,3 +8,4 @@ pub mod CandidateLemmas
 pub mod Pairs
 pub mod Steps
 pub mod Units
+pub mod Listed
