@@ -1,17 +1,16 @@
 -- What an offer leaves. Where a kept support is in that of the offered row, nothing changes. Otherwise the
 -- kept rows that aren't wider stay, the offered row comes in, and each row that went has it below.
-use Rattle.std.proofs.Common.{◌≡◌, ◌<◌, refl, sym, ap, ◌∙◌, subst, ℕ, zero, suc, Bool, true, false, not, cond, List, [], ◌∷◌, ◌++◌, length, get_or, filter, take, All, AllPairs, Any, Contains, inl, inr, arith}
+use Rattle.std.proofs.Common.{◌≡◌, ◌<◌, refl, sym, ap, ◌∙◌, subst, ℕ, zero, suc, Bool, true, false, not, cond, List, [], ◌∷◌, ◌++◌, length, get_or, filter, take, All, Any, Contains, inl, inr, arith}
 use Rattle.std.specs.List.{list_any}
 use Rattle.std.specs.Prelude.{◌⊎◌, ◌||◌}
 use Rattle.std.proofs.lemmas.Bool.{false≢true}
 use Rattle.std.proofs.Math.Seq.{get_or-append_seam, take-append_seam}
-use Rattle.std.proofs.lemmas.List.Elements.{All-nil, All-tail, All-cons, All-push, All-filter, All-contains_itself, All-contains, Contains-get_or, Contains-push, Contains-append_left}
+use Rattle.std.proofs.lemmas.List.Elements.{All-nil, All-tail, All-cons, All-push, All-filter, Contains-get_or, Contains-push, Contains-append_left}
 use Rattle.std.proofs.lemmas.List.Kept.{AllPairs-filter}
 use Rattle.std.proofs.lemmas.List.Quantifiers.{all_pairs_push}
 use Rattle.std.proofs.lemmas.List.Folds.{Any-from_list_any}
-use Rattle.net_values.specs.TheList.{HaveOneLength}
 use Rattle.support_prune.specs.Supports.{IsWithin, is_within}
-use Rattle.support_prune.specs.Pools.{AreApart, IsAntichain, IsPool, HasWithin, Offered, row_at}
+use Rattle.support_prune.specs.Pools.{AreApart, IsPool, HasWithin, Offered, row_at}
 use Rattle.support_prune.proofs.SupportLemmas.{within_true, within_false}
 
 any_of : {X : Type 0} (P : X → Type 0) (xs : List X) (x : X) → Contains xs x → P x → Any P xs

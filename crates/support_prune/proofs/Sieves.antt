@@ -1,10 +1,10 @@
 -- A list is sieved in place: each member is tested in turn, and taken out or passed. What was passed stands
 -- in front, what wasn't tested yet behind it, and the last member, which isn't tested, at the end.
-use Rattle.std.proofs.Common.{◌≡◌, refl, sym, ap, ◌∙◌, ℕ, zero, suc, ◌+◌, ◌-◌, ◌<◌, ◌≤◌, Bool, true, false, cond, List, [], ◌∷◌, ◌++◌, length, get_or, take, drop, remove, filter, append_assoc, length-append, length-drop, arith}
+use Rattle.std.proofs.Common.{◌≡◌, refl, sym, ap, ◌∙◌, ℕ, ◌+◌, ◌-◌, ◌<◌, ◌≤◌, Bool, true, false, cond, List, [], ◌∷◌, ◌++◌, length, get_or, take, drop, remove, filter, append_assoc, length-append, length-drop, arith}
 use Rattle.std.proofs.Math.Seq.{get_or-append_seam}
 use Rattle.std.proofs.lemmas.List.{take_more, drop_more, take_all, drop_all, append-nil}
 use Rattle.std.proofs.lemmas.List.Elements.{filter-append}
-use Rattle.std.proofs.lemmas.List.Edits.{remove-append_left, remove-append_right}
+use Rattle.std.proofs.lemmas.List.Edits.{remove-append_right}
 
 pub record Sieved {X : Type 0} (passes : X → Bool) (xs : List X) (last : X) (seen : ℕ) (rows : List X) (next : ℕ) : Type 0 where
   pub rows_are : rows ≡ (filter passes (take seen xs) ++ drop seen xs) ++ last ∷ []

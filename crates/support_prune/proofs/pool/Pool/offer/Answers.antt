@@ -1,7 +1,7 @@
-use Rattle.std.proofs.Common.{◌≡◌, sym, ap, ◌∙◌, subst, ℕ, List, Bool, true, false, ◌∷◌, [], ◌++◌, not, All, length, filter, take}
+use Rattle.std.proofs.Common.{◌≡◌, sym, ap, ◌∙◌, subst, ℕ, List, true, false, ◌∷◌, [], ◌++◌, length}
 use Rattle.std.specs.List.{list_any}
 use Rattle.support_prune.specs.Supports.{is_within}
-use Rattle.support_prune.specs.Pools.{IsPool, Offered, row_at}
+use Rattle.support_prune.specs.Pools.{IsPool}
 use Rattle.support_prune.proofs.Offers.{offered_found, offered_new, sieve_of_push}
 use Rattle.support_prune.proofs.pool.Pool.offer.Goals as goal
 
