@@ -1,7 +1,7 @@
 -- One column more: zero rows and combinations of a positive and a negative row are semiflows over the
 -- columns with the new one, and so are their quotients by the greatest common divisor of their entries.
 -- Where a pool has a row below each of them, it has one below each semiflow over those columns.
-use Rattle.std.proofs.Common.{◌≡◌, ◌⊎◌, refl, sym, ap, ◌∙◌, subst, ℕ, zero, suc, ◌+◌, ◌*◌, ◌<◌, ◌≤◌, List, [], length, get_or, slice_index, All, AllPairs, Any, inl, inr, arith}
+use Rattle.std.proofs.Common.{◌≡◌, ◌⊎◌, sym, ap, ◌∙◌, subst, ℕ, zero, suc, ◌+◌, ◌*◌, ◌<◌, List, [], length, slice_index, All, AllPairs, inl, inr, arith}
 use Rattle.std.specs.Int.{◌∣◌}
 use Rattle.std.proofs.lemmas.Bool.{cases_lt}
 use Rattle.std.proofs.lemmas.List.{get_or_default}
@@ -13,7 +13,6 @@ use Rattle.semiflow_elim.specs.Bases.{IsBasis, HasBelow, IsGood}
 use Rattle.semiflow_elim.specs.Elimination.{row_of}
 use Rattle.semiflow_elim.proofs.Weighted.{weighted_join, weighted_scale}
 use Rattle.semiflow_elim.proofs.Transport.{rows_below}
-use Rattle.semiflow_elim.proofs.Minimal.{IsFlat}
 use Rattle.semiflow_elim.proofs.Rows.{IsRow, basis_flat}
 
 -- the columns K' are K with c

@@ -1,10 +1,10 @@
 -- A number that divides x times each entry of a vector divides x times their greatest common divisor: by
 -- Euclid's algorithm for two numbers, and by induction for a vector. So proportional vectors with coprime
 -- entries are equal.
-use Rattle.std.proofs.Common.{◌≡◌, ◌⊎◌, refl, sym, ap, ◌∙◌, subst, ℕ, zero, suc, ◌+◌, ◌*◌, ◌/◌, ◌%◌, ◌<◌, ◌≤◌, inl, inr, arith}
+use Rattle.std.proofs.Common.{◌≡◌, sym, ap, ◌∙◌, subst, ℕ, zero, suc, ◌+◌, ◌*◌, ◌/◌, ◌%◌, ◌<◌, inl, inr, arith}
 use Rattle.std.specs.Int.{◌∣◌, IsGcd}
 use Rattle.std.proofs.lemmas.Bool.{cases_lt, cases_eq}
-use Rattle.std.proofs.lemmas.Nat.Gcd.{dvd_antisymm, dvd-zero, dvd_trans, dvd_refl, IsGcd-from_mod, IsGcd-from_zero}
+use Rattle.std.proofs.lemmas.Nat.Gcd.{dvd_antisymm, dvd-zero, dvd_trans, IsGcd-from_mod, IsGcd-from_zero}
 use Rattle.std.proofs.Math.Nat.{dvd-add_iff_right, dvd-mul_right, dvd-mul_right_of_dvd, div-add-mod, mod-lt, eq_of_mul-eq-mul_left}
 use Rattle.incidence.specs.Matrix.{Matrix}
 use Rattle.incidence.specs.Semiflow.{IsCoprime}

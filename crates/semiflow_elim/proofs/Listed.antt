@@ -1,5 +1,5 @@
 -- A sorted list has the members of the unsorted one, and the first columns, all of them, are all columns.
-use Rattle.std.proofs.Common.{◌≡◌, ◌↔◌, ℕ, ◌<◌, List, Contains}
+use Rattle.std.proofs.Common.{◌↔◌, ℕ, ◌<◌, List, Contains}
 use Rattle.std.specs.List.Sorted.{IsPermutation}
 use Rattle.std.proofs.lemmas.List.Sorted.{Contains-permutation, IsPermutation-sym}
 use Rattle.incidence.specs.Matrix.{Matrix}
@@ -21,7 +21,8 @@ minimal_along m K K' forth back y h = record {
 
 pub listed : (m : Matrix) (unsorted list : List (List ℕ)) → AreMinimal m (first_columns m.columns) unsorted → IsPermutation unsorted list → (x : List ℕ) → (Contains list x) ↔ IsMinimalRow m all_columns x
 listed m unsorted list h moved x = (
-    λ here.
+  λ here.
       let row = (h.members x).0 (Contains-permutation list unsorted x (IsPermutation-sym unsorted list moved) here) in
       record { size = row.size; minimal = minimal_along m (first_columns m.columns) all_columns (λ j p k. tt) (λ j p k. p) _ row.minimal },
-    λ row. Contains-permutation unsorted list x moved ((h.members x).1 record { size = row.size; minimal = minimal_along m all_columns (first_columns m.columns) (λ j p k. p) (λ j p k. tt) _ row.minimal }))
+  λ row. Contains-permutation unsorted list x moved ((h.members x).1 record { size = row.size; minimal = minimal_along m all_columns (first_columns m.columns) (λ j p k. p) (λ j p k. tt) _ row.minimal }),
+)

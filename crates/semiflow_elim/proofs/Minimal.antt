@@ -1,9 +1,9 @@
 -- Semiflows of one minimal support are proportional: what subtraction by the least ratio leaves of the
 -- minimal one has a smaller support, so nothing is left. Coprime rows of which no support is in another's,
 -- with one below each semiflow, are therefore exactly the minimal ones.
-use Rattle.std.proofs.Common.{◌≡◌, ◌⊎◌, refl, sym, ap, ◌∙◌, subst, ℕ, zero, suc, ◌+◌, ◌*◌, ◌<◌, ◌≤◌, inl, inr, arith}
+use Rattle.std.proofs.Common.{◌≡◌, ℕ, ◌<◌, inl, inr, arith}
 use Rattle.incidence.specs.Matrix.{Matrix}
-use Rattle.incidence.specs.Semiflow.{IsWithin, IsNonzero, IsSemiflow, IsCoprime, IsMinimal}
+use Rattle.incidence.specs.Semiflow.{IsWithin, IsSemiflow, IsCoprime, IsMinimal}
 use Rattle.semiflow_elim.specs.Laws.{AreProportional}
 use Rattle.semiflow_elim.proofs.Weighted.{none_or_some}
 use Rattle.semiflow_elim.proofs.Support.{Reduced, reduced}

@@ -1,6 +1,6 @@
 -- Offering a pair's combination: divided by the greatest common divisor of its entries it is a coprime
 -- semiflow over one column more, below the two rows together.
-use Rattle.std.proofs.Common.{◌≡◌, ◌⊎◌, refl, sym, ap, ◌∙◌, subst, ℕ, zero, suc, ◌+◌, ◌-◌, ◌*◌, ◌/◌, ◌^◌, ◌<◌, ◌≤◌, List, [], ◌++◌, length, get_or, slice_index, take, drop, All, Any, Contains, inl, inr, arith}
+use Rattle.std.proofs.Common.{◌≡◌, sym, ap, ◌∙◌, subst, ℕ, zero, suc, ◌+◌, ◌-◌, ◌*◌, ◌/◌, ◌^◌, ◌<◌, ◌≤◌, List, [], ◌++◌, length, get_or, slice_index, take, drop, inl, inr, arith}
 use Rattle.std.specs.Int.{◌∣◌, IsGcd}
 use Rattle.std.proofs.lemmas.Bool.{cases_lt}
 use Rattle.std.proofs.lemmas.List.{get_or_default}
@@ -10,11 +10,10 @@ use Rattle.std.proofs.Math.Seq.{take-append_seam}
 use Rattle.std.proofs.Math.Nat.{pos_of_dvd_of_pos, mul-div_cancel', div-le_self}
 use Rattle.net_values.specs.Vectors.{IsVector}
 use Rattle.support_prune.specs.Pools.{Offered}
-use Rattle.support_prune.specs.Supports.{IsWithin as IsWithinList}
 use Rattle.incidence.specs.Matrix.{Matrix, gain_sum, loss_sum}
 use Rattle.incidence.specs.Semiflow.{IsWithin, IsSemiflow, first_columns}
-use Rattle.semiflow_elim.specs.Arithmetic.{IsScaledSum, IsGcdOfAll, HasWideEntry}
-use Rattle.semiflow_elim.specs.Bases.{IsBasis, HasBelow, IsGood}
+use Rattle.semiflow_elim.specs.Arithmetic.{IsScaledSum, IsGcdOfAll}
+use Rattle.semiflow_elim.specs.Bases.{HasBelow, IsGood}
 use Rattle.semiflow_elim.specs.Candidates.{IsCombined, IsWideCombination, IsStep, AreGood, Grows, IsMet, sums_of}
 use Rattle.semiflow_elim.specs.Elimination.{IsPair, IsWidePair, IsNarrowPair, row_of, surplus, deficit, combination}
 use Rattle.semiflow_elim.specs.declared.signs.RowSums.{RowSums}

@@ -1,12 +1,10 @@
 -- A list of rows that is a basis has exactly the semiflows of minimal support as its members, each once.
-use Rattle.std.proofs.Common.{◌≡◌, ◌⊎◌, refl, sym, ap, ◌∙◌, subst, ℕ, zero, suc, ◌+◌, ◌*◌, ◌<◌, ◌≤◌, List, [], ◌∷◌, length, get_or, slice_index, All, AllPairs, Any, Contains, inl, inr, arith}
+use Rattle.std.proofs.Common.{◌≡◌, refl, sym, ap, ◌∙◌, subst, ℕ, suc, ◌<◌, List, [], ◌∷◌, length, get_or, slice_index, inl, inr, arith}
 use Rattle.std.proofs.lemmas.Bool.{cases_lt, cases_order}
 use Rattle.std.proofs.lemmas.List.{get_or_default, get_or_past}
-use Rattle.support_prune.specs.Pools.{AreApart}
 use Rattle.incidence.specs.Matrix.{Matrix}
-use Rattle.incidence.specs.Semiflow.{IsWithin, IsSemiflow, IsCoprime, IsMinimal}
-use Rattle.semiflow_elim.specs.Bases.{IsBasis, AreMinimal, IsMinimalRow}
-use Rattle.semiflow_elim.proofs.Transport.{Covers}
+use Rattle.incidence.specs.Semiflow.{IsWithin, IsSemiflow, IsCoprime}
+use Rattle.semiflow_elim.specs.Bases.{IsBasis, AreMinimal}
 use Rattle.semiflow_elim.proofs.Minimal.{IsFlat, row_minimal, minimal_row}
 
 -- lists of one length with the same entries are equal

@@ -1,14 +1,14 @@
 -- A step as a whole: the signs that are read off the sums are those of the rows, and the pool of all
 -- candidates is a basis over one column more.
-use Rattle.std.proofs.Common.{◌≡◌, refl, sym, ap, ◌∙◌, subst, ℕ, zero, suc, ◌+◌, ◌*◌, ◌<◌, ◌==◌, nat_lt, Bool, cond, List, [], ◌∷◌, length, get_or, slice_index, count_by, All, AllPairs, arith}
+use Rattle.std.proofs.Common.{◌≡◌, refl, ap, ◌∙◌, subst, ℕ, suc, ◌+◌, ◌*◌, ◌<◌, ◌==◌, nat_lt, Bool, cond, List, [], ◌∷◌, length, get_or, slice_index, count_by, All, arith}
 use Rattle.std.proofs.lemmas.List.{get_or_default}
 use Rattle.std.proofs.lemmas.List.Sums.{sum_by-cons}
 use Rattle.support_prune.specs.Pools.{IsPool}
 use Rattle.incidence.specs.Matrix.{Matrix, AreNarrow, gain_sum, loss_sum}
 use Rattle.incidence.specs.Semiflow.{first_columns}
 use Rattle.semiflow_elim.specs.Bases.{IsBasis}
-use Rattle.semiflow_elim.specs.Candidates.{IsStep, AreSums, AllOffered, sums_of, signs_total}
-use Rattle.semiflow_elim.specs.Elimination.{IsPair, candidate_count, row_of, is_zero, is_positive, is_negative}
+use Rattle.semiflow_elim.specs.Candidates.{IsStep, AreSums, AllOffered, signs_total}
+use Rattle.semiflow_elim.specs.Elimination.{candidate_count, is_zero, is_positive, is_negative}
 use Rattle.semiflow_elim.specs.declared.signs.RowSums.{RowSums}
 use Rattle.semiflow_elim.proofs.CandidateLemmas.{step_basis}
 use Rattle.semiflow_elim.proofs.Pairs.{first_extends}

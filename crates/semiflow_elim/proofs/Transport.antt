@@ -2,11 +2,10 @@
 -- whose two sums at a column are equal has a member with equal sums below it, or one of either sign. For
 -- take a member below it and subtract by the least ratio: what is left has a smaller support, and where the
 -- member's sign at the column isn't the wanted one, what is left has it.
-use Rattle.std.proofs.Common.{◌≡◌, ◌⊎◌, refl, sym, ap, ◌∙◌, subst, ℕ, zero, suc, ◌+◌, ◌-◌, ◌*◌, ◌<◌, ◌≤◌, inl, inr, arith}
+use Rattle.std.proofs.Common.{◌≡◌, ◌⊎◌, sym, ap, ℕ, zero, suc, ◌+◌, ◌*◌, ◌<◌, ◌≤◌, inl, inr, arith}
 use Rattle.std.proofs.lemmas.Bool.{cases_lt, cases_order}
 use Rattle.std.proofs.Math.Nat.{mul-le-mul_left, mul-lt-mul_of_pos_left}
-use Rattle.incidence.specs.Sums.{sum_below}
-use Rattle.incidence.specs.Matrix.{Matrix, gain_sum, loss_sum}
+use Rattle.incidence.specs.Matrix.{Matrix}
 use Rattle.incidence.specs.Semiflow.{IsWithin, IsNonzero, IsSemiflow}
 use Rattle.semiflow_elim.proofs.Weighted.{weighted, weighted_split, some_entry}
 use Rattle.semiflow_elim.proofs.Support.{support_size, Reduced, reduced, reduced_size}

@@ -1,5 +1,5 @@
 -- The candidates of an elimination step, and what offering them to a pool leaves.
-use Rattle.std.specs.Prelude.{◌≡◌, ℕ, ◌+◌, ◌*◌, ◌/◌, ◌<◌, ◌≤◌, ◌==◌, nat_lt, count_by, List, length, All, slice_index, slice_index_or}
+use Rattle.std.specs.Prelude.{◌≡◌, ℕ, ◌+◌, ◌*◌, ◌/◌, ◌<◌, ◌==◌, nat_lt, count_by, List, length, All, slice_index, slice_index_or}
 use Rattle.std.specs.Int.{IsGcd}
 use Rattle.incidence.specs.Matrix.{Matrix, AreNarrow, gain_sum, loss_sum}
 use Rattle.incidence.specs.Semiflow.{first_columns}

@@ -1,11 +1,9 @@
 -- One step of the elimination of a column (Colom and Silva, "Convex geometry and semiflows in P/T nets",
 -- 1991, section 4): rows whose two sums at the column are equal stay, and each row of positive sum is
 -- combined with each of negative sum so that the sum becomes 0.
-use Rattle.std.specs.Prelude.{◌≡◌, ◌⊎◌, ℕ, ◌+◌, ◌*◌, ◌-◌, ◌/◌, ◌^◌, ◌<◌, ◌≤◌, ◌==◌, nat_lt, Bool, List, [], All, Any, length, count_by, slice_index, slice_index_or}
+use Rattle.std.specs.Prelude.{◌≡◌, ℕ, ◌+◌, ◌*◌, ◌-◌, ◌/◌, ◌^◌, ◌<◌, ◌≤◌, ◌==◌, nat_lt, Bool, List, [], All, Any, length, count_by, slice_index, slice_index_or}
 use Rattle.std.specs.Int.{IsGcd}
 use Rattle.incidence.specs.Matrix.{Matrix, gain_sum, loss_sum, AreNarrow}
-use Rattle.incidence.specs.Semiflow.{first_columns}
-use Rattle.semiflow_elim.specs.Bases.{AreMinimal}
 use Rattle.semiflow_elim.specs.declared.fault.ElimFault.{ElimFault}
 use Rattle.semiflow_elim.specs.declared.fault.ElimFault.TheVariants.{NoMemory, WideSum, RowBudget, WideRow}
 

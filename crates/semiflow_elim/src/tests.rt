@@ -24,7 +24,9 @@ fn net(
         net.add_transition(Text::new(alloc))?;
     }
     for (p, t, back, weight) in arcs {
-        assert!(rt; *p < net.places() && *t < net.transitions() && *weight >= 1 && net.arcs() < 65536);
+        assert!(rt;
+            *p < net.places() && *t < net.transitions() && *weight >= 1 && net.arcs() < 65536
+        );
         if *back {
             net.add_output(*t, *p, *weight)?;
         } else {
@@ -37,18 +39,36 @@ fn net(
 #[test]
 fn the_minimal_semiflows_are_listed_in_order(rt: HostRuntime) -> Result<(), Fail> {
     let alloc = rt.alloc();
-    let cycle = [(0, 0, false, 1), (1, 0, true, 1), (1, 1, false, 1), (0, 1, true, 1)];
+    let cycle = [
+        (0, 0, false, 1),
+        (1, 0, true, 1),
+        (1, 1, false, 1),
+        (0, 1, true, 1),
+    ];
     let scale = [(0, 0, false, 2), (1, 0, true, 3)];
     let mutex = [
-        (0, 0, false, 1), (4, 0, false, 1), (2, 0, true, 1),
-        (2, 1, false, 1), (4, 1, true, 1), (0, 1, true, 1),
-        (1, 2, false, 1), (4, 2, false, 1), (3, 2, true, 1),
-        (3, 3, false, 1), (4, 3, true, 1), (1, 3, true, 1),
+        (0, 0, false, 1),
+        (4, 0, false, 1),
+        (2, 0, true, 1),
+        (2, 1, false, 1),
+        (4, 1, true, 1),
+        (0, 1, true, 1),
+        (1, 2, false, 1),
+        (4, 2, false, 1),
+        (3, 2, true, 1),
+        (3, 3, false, 1),
+        (4, 3, true, 1),
+        (1, 3, true, 1),
     ];
     for (places, transitions, arcs, expected) in [
         (2, 2, cycle.as_slice(), [[1, 1, 0, 0, 0]].as_slice()),
         (2, 1, scale.as_slice(), [[3, 2, 0, 0, 0]].as_slice()),
-        (5, 4, mutex.as_slice(), [[0, 0, 1, 1, 1], [0, 1, 0, 1, 0], [1, 0, 1, 0, 0]].as_slice()),
+        (
+            5,
+            4,
+            mutex.as_slice(),
+            [[0, 0, 1, 1, 1], [0, 1, 0, 1, 0], [1, 0, 1, 0, 0]].as_slice(),
+        ),
     ] {
         let net = net(&rt, alloc, places, transitions, arcs)?;
         let matrix = Incidence::of(alloc, &net)?;

@@ -1,6 +1,6 @@
-use Rattle.std.proofs.Common.{◌≡◌, sym, ap, ◌∙◌, subst, ℕ, ◌/◌, ◌<◌, List, length, slice_index, arith, rules}
+use Rattle.std.proofs.Common.{sym, ◌∙◌, subst, ℕ, ◌<◌, List, length, slice_index, rules}
 use Rattle.net_values.specs.Vectors.{IsVector}
-use Rattle.semiflow_elim.specs.Arithmetic.{IsScaledSum, IsGcdOfAll}
+use Rattle.semiflow_elim.specs.Arithmetic.{IsGcdOfAll}
 use Rattle.semiflow_elim.specs.Candidates.{IsCombined}
 use Rattle.semiflow_elim.proofs.Pairs.{gcd_positive, quotient_positive, divisor_positive, combined_is, combined_vector, taken}
 use Rattle.semiflow_elim.proofs.candidates.combined.Goals as goal

@@ -1,7 +1,6 @@
-use Rattle.std.proofs.Common.{ℕ, ◌≡◌, ◌<◌, ◌≤◌, ◌+◌, List, length, slice_index, subst, inl, inr, arith}
+use Rattle.std.proofs.Common.{ℕ, ◌≡◌, ◌+◌, List, length, slice_index, subst, inl, inr, arith}
 use Rattle.std.proofs.lemmas.Bool.{cases_lt}
 use Rattle.incidence.specs.Matrix.{Matrix, gain_sum, loss_sum}
-use Rattle.incidence.specs.Tables.{matrix_of}
 use Rattle.semiflow_elim.specs.Bases.{HasBelow}
 use Rattle.semiflow_elim.specs.Candidates.{Grows, IsMet, PairsOffered, AllOffered}
 use Rattle.semiflow_elim.specs.Elimination.{IsPair, row_of}

@@ -1,4 +1,4 @@
-use Rattle.std.proofs.Common.{◌≡◌, ◌<◌, ◌≤◌, arith, rules}
+use Rattle.std.proofs.Common.{arith, rules}
 use Rattle.std.proofs.lemmas.Result.{err_from_is_err_and}
 use Rattle.incidence.specs.Tables.{matrix_of}
 use Rattle.semiflow_elim.proofs.Pairs.{read_row, row_nonzero, pair_wide, pair_offered}

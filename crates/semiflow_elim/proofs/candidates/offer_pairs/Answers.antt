@@ -1,7 +1,6 @@
-use Rattle.std.proofs.Common.{ℕ, ◌≡◌, ◌<◌, ◌≤◌, ◌+◌, List, length, subst, inl, inr, arith}
+use Rattle.std.proofs.Common.{ℕ, ◌≡◌, ◌+◌, List, subst, inl, inr, arith}
 use Rattle.std.proofs.lemmas.Bool.{cases_lt}
 use Rattle.incidence.specs.Matrix.{Matrix}
-use Rattle.incidence.specs.Tables.{matrix_of}
 use Rattle.semiflow_elim.specs.Candidates.{Grows, IsMet, PairsOffered}
 use Rattle.semiflow_elim.specs.Elimination.{IsPair, row_of}
 use Rattle.semiflow_elim.proofs.candidates.offer_pairs.Goals as goal

@@ -1,4 +1,4 @@
-use Rattle.std.proofs.Common.{◌≡◌, ◌∙◌, arith, rules}
+use Rattle.std.proofs.Common.{◌∙◌, arith, rules}
 use Rattle.incidence.specs.Tables.{matrix_of}
 use Rattle.semiflow_elim.proofs.Pairs.{read_row, zero_offered}
 use Rattle.semiflow_elim.proofs.candidates.offer_zero.Goals as goal

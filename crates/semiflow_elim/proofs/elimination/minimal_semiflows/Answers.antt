@@ -1,4 +1,4 @@
-use Rattle.std.proofs.Common.{◌≡◌, ◌↔◌, ℕ, List, Contains}
+use Rattle.std.proofs.Common.{◌↔◌, ℕ, List, Contains}
 use Rattle.std.proofs.lemmas.Result.{IfOk-weaker}
 use Rattle.incidence.specs.Semiflow.{all_columns}
 use Rattle.incidence.specs.Tables.{matrix_of}

@@ -1,9 +1,9 @@
-use Rattle.std.proofs.Common.{◌≡◌, refl, sym, ap, ◌∙◌, subst, List, ℕ, ◌+◌, length, arith}
+use Rattle.std.proofs.Common.{refl, sym, ap, ◌∙◌, subst, ◌+◌, arith}
 use Rattle.std.proofs.lemmas.Result.{err_from_is_err_and}
 use Rattle.incidence.specs.Semiflow.{first_columns}
 use Rattle.incidence.specs.Tables.{matrix_of}
 use Rattle.semiflow_elim.specs.Bases.{IsBasis}
-use Rattle.semiflow_elim.specs.Candidates.{AreSums, signs_total}
+use Rattle.semiflow_elim.specs.Candidates.{signs_total}
 use Rattle.semiflow_elim.proofs.Steps.{total_is, all_narrow, pool_basis}
 use Rattle.semiflow_elim.proofs.tableau.next_rows.Goals as goal
 

@@ -1,4 +1,4 @@
-use Rattle.std.proofs.Common.{◌≡◌, ◌≤◌, ap, ◌∙◌, subst, ℕ, length, arith}
+use Rattle.std.proofs.Common.{subst, ℕ, arith}
 use Rattle.incidence.specs.Tables.{matrix_of}
 use Rattle.semiflow_elim.specs.Bases.{AreUnits}
 use Rattle.semiflow_elim.proofs.Units.{units_basis}
