@@ -1,0 +1,3 @@
+-- The definitions that contracts over sources and sinks cite.
+pub mod Causes
+pub mod Streams

@@ -1,0 +1,19 @@
+//! Sources and sinks of bytes: each tells the bytes that it has left or holds and a count of its faults,
+//! and no call over them answers a fault that the count doesn't tell.
+#![tactic(auto)]
+
+mod failed;
+mod reading;
+mod sink;
+mod source;
+mod std_sink;
+mod std_source;
+mod writing;
+
+pub use failed::Failed;
+pub use reading::{ReadAllFault, read_all};
+pub use sink::Sink;
+pub use source::Source;
+pub use std_sink::StdSink;
+pub use std_source::StdSource;
+pub use writing::{WriteFault, write_all};
