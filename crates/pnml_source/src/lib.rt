@@ -12,6 +12,8 @@ mod source;
 mod std_sink;
 mod std_source;
 mod steady_source;
+#[cfg(test)]
+mod tests;
 mod writing;
 
 pub use failed::Failed;

@@ -8,7 +8,7 @@ use crate::source::Source;
 use std::alloc::{AllocError, Global};
 
 /// Why [`read_all`] gave no bytes.
-#[derive(Clone, Copy, Debug)]
+#[derive(Clone, Copy, Debug, PartialEq, Eq)]
 pub enum ReadAllFault {
     /// The system refused memory.
     NoMemory,

@@ -6,7 +6,7 @@ ghost use Rattle.pnml_source.specs.Streams.{AppendsFront};
 use crate::sink::Sink;
 
 /// The sink failed before it had taken all bytes.
-#[derive(Clone, Copy, Debug)]
+#[derive(Clone, Copy, Debug, PartialEq, Eq)]
 pub struct WriteFault;
 
 /// Writes all bytes in order. It takes no memory.
