@@ -1,4 +1,4 @@
-ghost use Rattle.std.specs.Prelude.{◌≡◌, ◌+◌, ◌-◌, ◌^◌, ◌≤◌, ◌==◌, ◌&&◌, ◌||◌, nat_le, nat_lt, [], ◌++◌, length, take, is_err, IfOk, OnErr};
+ghost use Rattle.std.specs.Prelude.{◌≡◌, ◌-◌, ◌^◌, ◌≤◌, ◌||◌, [], ◌++◌, length, take, is_err, IfOk, OnErr};
 ghost use Rattle.std.specs.Io.KnownBytes.{WriteAppends};
 ghost use Rattle.pnml_source.specs.Causes.{HasCause, next_number};
 ghost use Rattle.pnml_source.specs.Streams.{TakesSome};
@@ -33,7 +33,8 @@ impl Model for MemorySink {
 
     ghost Value = { MemoryOutput };
 
-    ghost view = { λ s. record { held = s.held.items; room = s.room; pieces = s.pieces.items; failing = s.failing.items; call = s.call; faults = s.faults } };
+    ghost view = { λ s.
+        record { held = s.held.items; room = s.room; pieces = s.pieces.items; failing = s.failing.items; call = s.call; faults = s.faults } };
 
     ghost invariant = { λ s. (vec_len s.held ≤ s.room) × (s.room ≤ vec_capacity s.held) };
 }
@@ -46,7 +47,8 @@ impl MemorySink {
         pieces: Vec<usize>,
         failing: Vec<u64>,
     ) -> Result<MemorySink, NoMemory>
-        ensures { IfOk result (λ sink. sink ≡ record { held = []; room = room; pieces = pieces.items; failing = failing.items; call = 0; faults = 0 }) }
+        ensures { IfOk result (λ sink.
+            sink ≡ record { held = []; room = room; pieces = pieces.items; failing = failing.items; call = 0; faults = 0 }) }
     {
         Ok(MemorySink {
             held: Vec::with_capacity(alloc, room)?,
@@ -80,10 +82,13 @@ impl Sink for MemorySink {
         ensures last { self.new.faults ≤ 2 ^ 64 - 1 }
 
         // The calls that fail are those that were named, and those that meet a full sink.
-        ensures fails { is_err result ≡ (is_failing self.old.failing self.old.call || meets_full self.old piece.now) }
+        ensures fails { is_err result
+            ≡ (is_failing self.old.failing self.old.call || meets_full self.old piece.now) }
         ensures count { IfOk result (λ n. n ≡ bytes_taken self.old (length piece.now)) }
-        ensures ok { IfOk result (λ n. self.new ≡ record self.old { held = self.old.held ++ take n piece.now; call = next_number self.old.call }) }
-        ensures err { OnErr result (self.new ≡ record self.old { call = next_number self.old.call; faults = next_number self.old.faults }) }
+        ensures ok { IfOk result (λ n.
+            self.new ≡ record self.old { held = self.old.held ++ take n piece.now; call = next_number self.old.call }) }
+        ensures err { OnErr result
+            (self.new ≡ record self.old { call = next_number self.old.call; faults = next_number self.old.faults }) }
     {
         let call = self.call;
         let faults = self.faults;

@@ -1,4 +1,4 @@
-ghost use Rattle.std.specs.Prelude.{◌≡◌, ◌+◌, ◌-◌, ◌^◌, ◌≤◌, [], ◌++◌, length, take, drop, min, vec_len, is_err, IfOk, OnErr};
+ghost use Rattle.std.specs.Prelude.{◌≡◌, ◌+◌, ◌-◌, ◌^◌, ◌≤◌, [], ◌++◌, length, take, drop, is_err, IfOk, OnErr};
 ghost use Rattle.std.specs.Io.{ReadsAtMost};
 ghost use Rattle.pnml_source.specs.Causes.{HasCause, next_number};
 ghost use Rattle.pnml_source.specs.Streams.{GivesNext};
@@ -30,7 +30,8 @@ impl Model for MemorySource {
 
     ghost Value = { MemoryInput };
 
-    ghost view = { λ s. record { left = drop s.at s.bytes.items; pieces = s.pieces.items; failing = s.failing.items; call = s.call; faults = s.faults } };
+    ghost view = { λ s.
+        record { left = drop s.at s.bytes.items; pieces = s.pieces.items; failing = s.failing.items; call = s.call; faults = s.faults } };
 
     ghost invariant = { λ s. s.at ≤ vec_len s.bytes };
 }
@@ -38,7 +39,8 @@ impl Model for MemorySource {
 impl MemorySource {
     /// The source before its call 0.
     pub fn new(bytes: Vec<u8>, pieces: Vec<usize>, failing: Vec<u64>) -> MemorySource
-        ensures { result ≡ record { left = bytes.items; pieces = pieces.items; failing = failing.items; call = 0; faults = 0 } }
+        ensures { result ≡
+            record { left = bytes.items; pieces = pieces.items; failing = failing.items; call = 0; faults = 0 } }
     {
         MemorySource {
             bytes,
@@ -67,8 +69,10 @@ impl Source for MemorySource {
         // The calls that fail are those that were named.
         ensures fails { is_err result ≡ is_failing self.old.failing self.old.call }
         ensures count { IfOk result (λ n. n ≡ bytes_given self.old (length buf.old)) }
-        ensures ok { IfOk result (λ n. self.new ≡ record self.old { left = drop n self.old.left; call = next_number self.old.call }) }
-        ensures err { OnErr result (self.new ≡ record self.old { call = next_number self.old.call; faults = next_number self.old.faults }) }
+        ensures ok { IfOk result (λ n.
+            self.new ≡ record self.old { left = drop n self.old.left; call = next_number self.old.call }) }
+        ensures err { OnErr result
+            (self.new ≡ record self.old { call = next_number self.old.call; faults = next_number self.old.faults }) }
     {
         let call = self.call;
         let faults = self.faults;

@@ -44,21 +44,27 @@ pub fn read_all<S: Source>(
     requires { limit < 2 ^ 63 }
 
     // The answer is the whole input, which is no longer than the limit.
-    ensures whole { IfOk result (λ bytes. IsWholeInput (S.left source.old) (S.left source.new) bytes.items) }
+    ensures whole { IfOk result (λ bytes.
+        IsWholeInput (S.left source.old) (S.left source.new) bytes.items) }
     ensures short { IfOk result (λ bytes. length bytes.items ≤ limit) }
     ensures kept { OnOk result (S.faults source.new ≡ S.faults source.old) }
 
     // A failed read is one that the count tells.
     ensures later { S.faults source.old ≤ S.faults source.new }
-    ensures read_fault { IfErr result (λ e. e ≡ ReadFault → Rose (S.faults source.old) (S.faults source.new)) }
+    ensures read_fault { IfErr result (λ e. e ≡ ReadFault →
+        Rose (S.faults source.old) (S.faults source.new)) }
 
     // The input is too long where one byte more than the limit was taken.
-    ensures too_long { IfErr result (λ e. e ≡ TooLong → TakesExactly (S.left source.old) (S.left source.new) (limit + 1)) }
-    ensures too_long_kept { IfErr result (λ e. e ≡ TooLong → S.faults source.new ≡ S.faults source.old) }
+    ensures too_long { IfErr result (λ e. e ≡ TooLong →
+        TakesExactly (S.left source.old) (S.left source.new) (limit + 1)) }
+    ensures too_long_kept { IfErr result (λ e. e ≡ TooLong →
+        S.faults source.new ≡ S.faults source.old) }
 
     // Want of memory stands for no other answer.
-    ensures no_memory { IfErr result (λ e. e ≡ NoMemory → TakesAtMost (S.left source.old) (S.left source.new) limit) }
-    ensures no_memory_kept { IfErr result (λ e. e ≡ NoMemory → S.faults source.new ≡ S.faults source.old) }
+    ensures no_memory { IfErr result (λ e. e ≡ NoMemory →
+        TakesAtMost (S.left source.old) (S.left source.new) limit) }
+    ensures no_memory_kept { IfErr result (λ e. e ≡ NoMemory →
+        S.faults source.new ≡ S.faults source.old) }
 {
     let mut bytes = Vec::new(alloc);
     let mut buffer = zeros(alloc, READ_SIZE)?;
@@ -89,15 +95,20 @@ fn read_piece<S: Source>(
     requires within { vec_len bytes.old ≤ limit }
     requires room { 0 < length buffer.old }
     ensures within { vec_len bytes.new ≤ limit }
-    ensures grown { OnOk result (MovesBytes (S.left source.old) (S.left source.new) bytes.old.items bytes.new.items) }
+    ensures grown { OnOk result
+        (MovesBytes (S.left source.old) (S.left source.new) bytes.old.items bytes.new.items) }
     ensures more { IfOk result (λ more. more ≡ true → vec_len bytes.old < vec_len bytes.new) }
     ensures ended { IfOk result (λ more. more ≡ false → IsAtEnd (S.left source.new)) }
     ensures kept { OnOk result (S.faults source.new ≡ S.faults source.old) }
     ensures later { S.faults source.old ≤ S.faults source.new }
-    ensures read_fault { IfErr result (λ e. e ≡ ReadFault → Rose (S.faults source.old) (S.faults source.new)) }
-    ensures too_long { IfErr result (λ e. e ≡ TooLong → TakesExactly (S.left source.old) (S.left source.new) (limit + 1 - vec_len bytes.old)) }
-    ensures no_memory { IfErr result (λ e. e ≡ NoMemory → TakesAtMost (S.left source.old) (S.left source.new) (limit - vec_len bytes.old)) }
-    ensures not_read { IfErr result (λ e. (e ≡ ReadFault → ⊥) → S.faults source.new ≡ S.faults source.old) }
+    ensures read_fault { IfErr result (λ e. e ≡ ReadFault →
+        Rose (S.faults source.old) (S.faults source.new)) }
+    ensures too_long { IfErr result (λ e. e ≡ TooLong →
+        TakesExactly (S.left source.old) (S.left source.new) (limit + 1 - vec_len bytes.old)) }
+    ensures no_memory { IfErr result (λ e. e ≡ NoMemory →
+        TakesAtMost (S.left source.old) (S.left source.new) (limit - vec_len bytes.old)) }
+    ensures not_read { IfErr result (λ e. (e ≡ ReadFault → ⊥) →
+        S.faults source.new ≡ S.faults source.old) }
 {
     let wanted = buffer.len().min(limit - bytes.len() + 1);
     let piece = &mut buffer[..wanted];

@@ -1,4 +1,4 @@
-ghost use Rattle.std.specs.Prelude.{◌≡◌, ◌+◌, ◌-◌, ◌≤◌, ◌<◌, length, take, drop, IfOk, OnOk, OnErr};
+ghost use Rattle.std.specs.Prelude.{◌≡◌, ◌-◌, ◌≤◌, ◌<◌, length, take, drop, IfOk, OnOk, OnErr};
 ghost use Rattle.std.specs.Io.KnownBytes.{Appends, Keeps};
 ghost use Rattle.pnml_source.specs.Causes.{HasCause};
 ghost use Rattle.pnml_source.specs.Streams.{AppendsFront};
@@ -33,7 +33,8 @@ fn write_piece<O: Sink>(sink: &mut O, bytes: &[u8], at: usize) -> Result<usize, 
     requires { at < length bytes.now }
     ensures within { IfOk result (λ end. end ≤ length bytes.now) }
     ensures further { IfOk result (λ end. at < end) }
-    ensures taken { IfOk result (λ end. Appends (O.held sink.old) (O.held sink.new) (take (end - at) (drop at bytes.now))) }
+    ensures taken { IfOk result (λ end.
+        Appends (O.held sink.old) (O.held sink.new) (take (end - at) (drop at bytes.now))) }
     ensures cut { OnErr result (Keeps (O.held sink.old) (O.held sink.new)) }
     ensures cause { HasCause (O.faults sink.old) (O.faults sink.new) result }
 {
