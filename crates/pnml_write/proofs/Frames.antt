@@ -1,0 +1,1 @@
+-- The net around the items, and the document around the net.

@@ -1,0 +1,5 @@
+pub mod Runs
+pub mod Labels
+pub mod Shapes
+pub mod Sequences
+pub mod Frames

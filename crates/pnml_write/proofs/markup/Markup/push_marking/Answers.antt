@@ -1,0 +1,16 @@
+use Rattle.std.proofs.Common.{append-nil, sym, arith, ◌++◌}
+use Rattle.std.specs.Prelude.{codes, decimal}
+use Rattle.net_values.specs.Canon.{marking_text}
+use Rattle.pnml_write.proofs.Labels.{joined, finished, marking_none, marking_full}
+use Rattle.pnml_write.proofs.markup.Markup.push_marking.Goals as goal
+
+pub returns-then-tokens-eq0 : goal.returns-then-tokens-eq0
+returns-then-tokens-eq0 c = rw (marking_none c.args.tokens c.if-tokens-eq0.true) (sym (append-nil c.args.self.now))
+
+pub returns : goal.returns
+returns c =
+    let opening = codes "<initialMarking><text>" in
+    let tokens = decimal c.args.tokens in
+    finished c.push-2.result c.args.self.now c.push_number.new.self c.push-2.new.self (opening ++ tokens) (codes "</text></initialMarking>") (marking_text c.args.tokens)
+    (joined c.args.self.now c.push.new.self c.push_number.new.self opening tokens c.in_ok-push.ensures c.in_ok-push_number.ensures)
+    (marking_full c.args.tokens c.ranges.tokens.fits c.if-tokens-eq0.false) c.push-2.ensures

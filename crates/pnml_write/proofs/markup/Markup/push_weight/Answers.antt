@@ -1,0 +1,16 @@
+use Rattle.std.proofs.Common.{append-nil, sym, arith, ◌++◌}
+use Rattle.std.specs.Prelude.{codes, decimal}
+use Rattle.net_values.specs.Canon.{weight_text}
+use Rattle.pnml_write.proofs.Labels.{joined, finished, weight_none, weight_full}
+use Rattle.pnml_write.proofs.markup.Markup.push_weight.Goals as goal
+
+pub returns-then-weight-eq1 : goal.returns-then-weight-eq1
+returns-then-weight-eq1 c = rw (weight_none c.args.weight c.if-weight-eq1.true) (sym (append-nil c.args.self.now))
+
+pub returns : goal.returns
+returns c =
+    let opening = codes "<inscription><text>" in
+    let weight = decimal c.args.weight in
+    finished c.push-2.result c.args.self.now c.push_number.new.self c.push-2.new.self (opening ++ weight) (codes "</text></inscription>") (weight_text c.args.weight)
+    (joined c.args.self.now c.push.new.self c.push_number.new.self opening weight c.in_ok-push.ensures c.in_ok-push_number.ensures)
+    (weight_full c.args.weight c.ranges.weight.fits c.if-weight-eq1.false) c.push-2.ensures
