@@ -1,11 +1,10 @@
 -- A value is written in runs: the bytes before the first that is written as a reference stand as they are,
 -- and behind that byte the same holds again.
-use Rattle.std.proofs.Common.{◌≡◌, ◌≢◌, ℕ, ◌<◌, ◌≤◌, Bool, true, false, cond, ◌||◌, not, zero, suc, List, [], ◌∷◌, ◌++◌, length, get_or, take, drop, Option, Some, None, refl, ap, sym, ◌∙◌, arith, inl, inr, append_assoc, ◌+◌, add-one}
-use Rattle.std.specs.Prelude.{nat_eq, nat_lt, slice_range}
+use Rattle.std.proofs.Common.{◌≡◌, ◌≢◌, ℕ, ◌<◌, ◌≤◌, Bool, true, false, cond, ◌||◌, not, zero, suc, List, [], ◌∷◌, ◌++◌, length, get_or, take, drop, Some, None, refl, ap, arith, append_assoc, ◌+◌, add-one}
+use Rattle.std.specs.Prelude.{nat_eq, slice_range}
 use Rattle.std.specs.List.{position, position_or_len}
 use Rattle.std.proofs.Math.Nat.{sub-zero}
 use Rattle.std.proofs.lemmas.List.Sums.{prefix_len_passes}
-use Rattle.std.proofs.lemmas.List.Quantifiers.{position-Some}
 use Rattle.std.proofs.lemmas.Bool.Decides.{nat_tests}
 use Rattle.std.proofs.lemmas.Bool.{ltb-false}
 use Rattle.net_values.specs.Canon.{escape, escaped}
@@ -25,7 +24,6 @@ last_choice false false false false false false false s t u v w x y z never = re
 escape_verbatim : (byte : ℕ) → is_escaped byte ≡ false → escape byte ≡ byte ∷ []
 escape_verbatim byte verbatim =
     last_choice (nat_eq byte 38) (nat_eq byte 60) (nat_eq byte 62) (nat_eq byte 34) (nat_eq byte 9) (nat_eq byte 10) (nat_eq byte 13) _ _ _ _ _ _ _ (byte ∷ []) verbatim
-
 
 pub escaped_is_ascii : (byte : ℕ) → is_escaped byte ≡ true → byte < 128
 escaped_is_ascii byte special = grind (arith, nat_tests)

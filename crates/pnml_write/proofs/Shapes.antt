@@ -1,5 +1,5 @@
 -- The items' texts, as they are written: each attribute with the text in front of it, and then the rest.
-use Rattle.std.proofs.Common.{◌≡◌, ℕ, List, [], ◌∷◌, ◌++◌, refl, sym, append_assoc}
+use Rattle.std.proofs.Common.{◌≡◌, ℕ, List, [], ◌∷◌, ◌++◌, refl, sym}
 use Rattle.std.specs.Prelude.{codes}
 use Rattle.net_values.specs.declared.document.PageNode.{PageNode}
 use Rattle.net_values.specs.declared.document.PlaceNode.{PlaceNode}

@@ -7,7 +7,8 @@ use net_values::{Document, NetTree, NoMemory, Text};
 use std::alloc::Global;
 
 /// The XML declaration and the start tag of `pnml` (ISO/IEC 15909-2).
-const HEAD: &str = "<?xml version=\"1.0\" encoding=\"UTF-8\"?><pnml xmlns=\"http://www.pnml.org/version-2009/grammar/pnml\">";
+const HEAD: &str =
+    "<?xml version=\"1.0\" encoding=\"UTF-8\"?><pnml xmlns=\"http://www.pnml.org/version-2009/grammar/pnml\">";
 
 /// The type of a net, a place/transition net, as an attribute (ISO/IEC 15909-2).
 const NET_TYPE: &str = " type=\"http://www.pnml.org/version-2009/grammar/ptnet\"";

@@ -1,6 +1,4 @@
-use Rattle.std.proofs.Common.{◌++◌}
 use Rattle.std.specs.Prelude.{codes}
-use Rattle.net_values.specs.declared.document.Item.TheVariants.{Page}
 use Rattle.net_values.specs.Canon.{name_text, element, id_attribute}
 use Rattle.pnml_write.specs.Elements.{behind_attributes}
 use Rattle.pnml_write.proofs.Labels.{finished}

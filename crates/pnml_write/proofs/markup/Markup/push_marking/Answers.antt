@@ -1,4 +1,4 @@
-use Rattle.std.proofs.Common.{append-nil, sym, arith, ◌++◌}
+use Rattle.std.proofs.Common.{append-nil, sym, ◌++◌}
 use Rattle.std.specs.Prelude.{codes, decimal}
 use Rattle.net_values.specs.Canon.{marking_text}
 use Rattle.pnml_write.proofs.Labels.{joined, finished, marking_none, marking_full}

@@ -1,4 +1,4 @@
-use Rattle.std.proofs.Common.{append-nil, sym, arith, ◌++◌, ap, refl, ◌≡◌, ◌∙◌, List, ℕ, []}
+use Rattle.std.proofs.Common.{append-nil, sym, ◌++◌, ap, ◌∙◌, List, ℕ, []}
 use Rattle.std.specs.Prelude.{codes}
 use Rattle.net_values.specs.Canon.{label, escaped}
 use Rattle.pnml_write.proofs.Labels.{joined, finished, name_full, name_empty, empty_text, some_text}
