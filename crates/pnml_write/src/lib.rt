@@ -10,3 +10,6 @@ mod markup;
 mod nodes;
 
 pub use document::canonical;
+
+#[cfg(test)]
+mod tests;
