@@ -7,24 +7,12 @@ use Rattle.std.proofs.lemmas.Bool.{ne_eqb, eq-eqb, both_ways, false≢true, eqb-
 use Rattle.std.proofs.lemmas.List.{nil_from_length}
 use Rattle.net_values.specs.Canon.{escaped, start_tag, end_tag, empty_tag, element, label, name_text, marking_text, weight_text}
 use Rattle.pnml_write.specs.Elements.{behind_attributes}
+use Rattle.pnml_write.proofs.Pieces.{around_value, two_and_three, some_behind}
 use Rattle.pnml_write.proofs.Runs.{escape_some}
 
--- a piece behind what was written before it
-pub joined : (before between after written piece : List ℕ) → between ≡ before ++ written → after ≡ between ++ piece → after ≡ before ++ (written ++ piece)
-joined before between after written piece first second = rw (second, first) (append_assoc before written piece)
-
--- a last piece behind what was written before it
-pub finished : {T E : Type 0} (result : Result T E) (before between after written last whole : List ℕ) → between ≡ before ++ written → written ++ last ≡ whole → OnOk result (after ≡ between ++ last) → OnOk result (after ≡ before ++ whole)
-finished (Ok value) before between after written last whole first is e =
-    rw (e, first) (append_assoc before written last ∙ ap (λ (t : List ℕ). before ++ t) is)
-finished (Err error) before between after written last whole first is e = tt
-
-pub element_full : (name attributes children : List ℕ) → children ≢ [] → element name attributes children ≡ start_tag name attributes ++ children ++ end_tag name
+element_full : (name attributes children : List ℕ) → children ≢ [] → element name attributes children ≡ start_tag name attributes ++ children ++ end_tag name
 element_full name attributes [] some = absurd (some refl)
 element_full name attributes (byte ∷ bytes) some = refl
-
-around_value : (s t v e f : List ℕ) → s ++ (t ++ v ++ e) ++ f ≡ (s ++ t) ++ v ++ (e ++ f)
-around_value s t v e f = simp append_assoc
 
 label_full : (name value : List ℕ) → value ≢ [] → label name value ≡ start_tag name [] ++ start_tag (codes "text") [] ++ value ++ (end_tag (codes "text") ++ end_tag name)
 unfolding start_tag
@@ -95,16 +83,9 @@ weight_some n small other e =
     let opened : codes "<inscription><text>" ++ decimal n ++ codes "</text></inscription>" ≡ [] = weight_full n small other ∙ e in
     cc
 
-some_behind : (xs ys : List ℕ) → ys ≢ [] → xs ++ ys ≢ []
-some_behind [] ys some e = some e
-some_behind (x ∷ xs) ys some e = cc
-
 pub behind_full : (children end : List ℕ) → children ≢ [] → codes ">" ++ children ++ end ≡ behind_attributes children end
 behind_full [] end some = absurd (some refl)
 behind_full (byte ∷ bytes) end some = refl
-
-two_and_three : (a b c d e : List ℕ) → a ++ b ++ c ++ d ++ e ≡ a ++ b ++ (c ++ d ++ e)
-two_and_three a b c d e = simp append_assoc
 
 -- an element is its name, its attributes and the rest
 pub element_parts : (name attributes children : List ℕ) → element name attributes children ≡ codes "<" ++ name ++ attributes ++ behind_attributes children (end_tag name)

@@ -9,6 +9,7 @@ use Rattle.std.proofs.lemmas.Bool.Decides.{nat_tests}
 use Rattle.std.proofs.lemmas.Bool.{ltb-false}
 use Rattle.net_values.specs.Canon.{escape, escaped}
 use Rattle.pnml_write.specs.Escapes.{is_escaped}
+use Rattle.pnml_write.proofs.Pieces.{some_front}
 
 -- the last of seven choices, where no test passes
 last_choice : (a b c d e f g : Bool) (s t u v w x y z : List ℕ) → (a || b || c || d || e || f || g) ≡ false → cond a s (cond b t (cond c u (cond d v (cond e w (cond f x (cond g y z)))))) ≡ z
@@ -63,17 +64,13 @@ position_none test bytes e k below =
     passes_not _ (prefix_len_passes (λ x. not (test x)) bytes k 0 (omega arith))
 
 -- no byte is written as nothing
-longer : (text rest : List ℕ) → text ≢ [] → text ++ rest ≢ []
-longer [] rest some e = some refl
-longer (byte ∷ text) rest some e = cc
-
 some_choice : (b : Bool) (s t : List ℕ) → s ≢ [] → t ≢ [] → cond b s t ≢ []
 some_choice true s t some other = some
 some_choice false s t some other = other
 
 pub escape_some : (byte : ℕ) (rest : List ℕ) → escape byte ++ rest ≢ []
 escape_some byte rest =
-    longer (escape byte) rest
+    some_front (escape byte) rest
     (some_choice (nat_eq byte 38) _ _ (λ e. cc)
     (some_choice (nat_eq byte 60) _ _ (λ e. cc)
     (some_choice (nat_eq byte 62) _ _ (λ e. cc)

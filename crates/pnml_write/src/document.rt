@@ -1,5 +1,7 @@
 ghost use Rattle.std.specs.Prelude.{◌≡◌, ◌++◌, IfOk, OnOk, codes};
+ghost use Rattle.net_values.specs.declared.document.Document.{Document as Tree};
 ghost use Rattle.net_values.specs.Canon.{canon, name_text, items_text, net_text};
+ghost use Rattle.net_values.specs.Plain.{Plain, PlainBytes};
 ghost use Rattle.pnml_write.specs.Elements.{behind_attributes};
 
 use crate::markup::Markup;
@@ -49,3 +51,8 @@ impl Markup {
         self.push("</net>")
     }
 }
+
+/// The law that a plain document's canonical text is plain bytes of it. It does nothing.
+pub fn plain_text()
+    ensures { (document : Tree) → Plain document → PlainBytes document (canon document) }
+{}

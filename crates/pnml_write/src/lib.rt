@@ -9,7 +9,7 @@ mod items;
 mod markup;
 mod nodes;
 
-pub use document::canonical;
+pub use document::{canonical, plain_text};
 
 #[cfg(test)]
 mod tests;

@@ -2,7 +2,8 @@ use Rattle.std.proofs.Common.{◌++◌, [], sym, append-nil, arith}
 use Rattle.std.specs.Prelude.{codes}
 use Rattle.net_values.specs.Canon.{name_text, weight_text}
 use Rattle.pnml_write.specs.Elements.{behind_attributes}
-use Rattle.pnml_write.proofs.Labels.{joined, finished, unlabelled, labelled, weight_none, weight_some}
+use Rattle.pnml_write.proofs.Pieces.{joined, finished}
+use Rattle.pnml_write.proofs.Labels.{unlabelled, labelled, weight_none, weight_some}
 use Rattle.pnml_write.proofs.markup.Markup.push_arc_rest.Goals as goal
 
 pub returns-then-arc-eq1 : goal.returns-then-arc-eq1

@@ -1,7 +1,7 @@
 use Rattle.std.specs.Prelude.{codes}
 use Rattle.net_values.specs.Canon.{name_text, element, id_attribute}
 use Rattle.pnml_write.specs.Elements.{behind_attributes}
-use Rattle.pnml_write.proofs.Labels.{finished}
+use Rattle.pnml_write.proofs.Pieces.{finished}
 use Rattle.pnml_write.proofs.Shapes.{quoted, empty_page_is}
 use Rattle.pnml_write.proofs.markup.Markup.push_empty_page.Goals as goal
 

@@ -1,7 +1,8 @@
 use Rattle.std.proofs.Common.{append-nil, sym, ◌++◌}
 use Rattle.std.specs.Prelude.{codes, decimal}
 use Rattle.net_values.specs.Canon.{marking_text}
-use Rattle.pnml_write.proofs.Labels.{joined, finished, marking_none, marking_full}
+use Rattle.pnml_write.proofs.Pieces.{joined, finished}
+use Rattle.pnml_write.proofs.Labels.{marking_none, marking_full}
 use Rattle.pnml_write.proofs.markup.Markup.push_marking.Goals as goal
 
 pub returns-then-tokens-eq0 : goal.returns-then-tokens-eq0

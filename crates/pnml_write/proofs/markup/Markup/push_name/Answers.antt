@@ -1,7 +1,8 @@
 use Rattle.std.proofs.Common.{append-nil, sym, ◌++◌, ap, ◌∙◌, List, ℕ, []}
 use Rattle.std.specs.Prelude.{codes}
 use Rattle.net_values.specs.Canon.{label, escaped}
-use Rattle.pnml_write.proofs.Labels.{joined, finished, name_full, name_empty, empty_text, some_text}
+use Rattle.pnml_write.proofs.Pieces.{joined, finished}
+use Rattle.pnml_write.proofs.Labels.{name_full, name_empty, empty_text, some_text}
 use Rattle.pnml_write.proofs.markup.Markup.push_name.Goals as goal
 
 pub returns-then-is_empty : goal.returns-then-is_empty

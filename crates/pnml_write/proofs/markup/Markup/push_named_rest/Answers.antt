@@ -2,7 +2,8 @@ use Rattle.std.proofs.Common.{◌++◌, sym}
 use Rattle.std.specs.Prelude.{codes}
 use Rattle.net_values.specs.Canon.{name_text}
 use Rattle.pnml_write.specs.Elements.{behind_attributes}
-use Rattle.pnml_write.proofs.Labels.{joined, finished, behind_full, name_some}
+use Rattle.pnml_write.proofs.Pieces.{joined, finished}
+use Rattle.pnml_write.proofs.Labels.{behind_full, name_some}
 use Rattle.pnml_write.proofs.markup.Markup.push_named_rest.Goals as goal
 
 pub returns : goal.returns

@@ -3,7 +3,7 @@ use Rattle.std.specs.Prelude.{codes}
 use Rattle.net_values.specs.Canon.{name_text, items_text, net_text}
 use Rattle.pnml_write.specs.declared.document.TheConstants.{NET_TYPE}
 use Rattle.pnml_write.specs.Elements.{behind_attributes}
-use Rattle.pnml_write.proofs.Labels.{joined, finished}
+use Rattle.pnml_write.proofs.Pieces.{joined, finished}
 use Rattle.pnml_write.proofs.Shapes.{quoted}
 use Rattle.pnml_write.proofs.Frames.{net_is}
 use Rattle.pnml_write.proofs.markup.Markup.push_net.Goals as goal

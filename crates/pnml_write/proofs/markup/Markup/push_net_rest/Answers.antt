@@ -2,7 +2,8 @@ use Rattle.std.proofs.Common.{◌++◌, ◌∙◌, ap}
 use Rattle.std.specs.Prelude.{codes}
 use Rattle.net_values.specs.Canon.{name_text, items_text}
 use Rattle.pnml_write.specs.Elements.{behind_attributes}
-use Rattle.pnml_write.proofs.Labels.{joined, finished, labelled}
+use Rattle.pnml_write.proofs.Pieces.{joined, finished}
+use Rattle.pnml_write.proofs.Labels.{labelled}
 use Rattle.pnml_write.proofs.Sequences.{items_some}
 use Rattle.pnml_write.proofs.markup.Markup.push_net_rest.Goals as goal
 

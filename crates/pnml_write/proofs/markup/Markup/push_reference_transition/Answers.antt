@@ -3,7 +3,7 @@ use Rattle.std.specs.Prelude.{codes}
 use Rattle.net_values.specs.declared.document.Item.TheVariants.{RefTransition}
 use Rattle.net_values.specs.Canon.{name_text, item_text}
 use Rattle.pnml_write.specs.Elements.{behind_attributes}
-use Rattle.pnml_write.proofs.Labels.{joined, finished}
+use Rattle.pnml_write.proofs.Pieces.{joined, finished}
 use Rattle.pnml_write.proofs.Shapes.{quoted, reference_transition_is}
 use Rattle.pnml_write.proofs.markup.Markup.push_reference_transition.Goals as goal
 

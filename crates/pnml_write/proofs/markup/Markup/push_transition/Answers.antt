@@ -2,7 +2,7 @@ use Rattle.std.specs.Prelude.{codes}
 use Rattle.net_values.specs.declared.document.Item.TheVariants.{Transition}
 use Rattle.net_values.specs.Canon.{name_text, item_text}
 use Rattle.pnml_write.specs.Elements.{behind_attributes}
-use Rattle.pnml_write.proofs.Labels.{finished}
+use Rattle.pnml_write.proofs.Pieces.{finished}
 use Rattle.pnml_write.proofs.Shapes.{quoted, transition_is}
 use Rattle.pnml_write.proofs.markup.Markup.push_transition.Goals as goal
 

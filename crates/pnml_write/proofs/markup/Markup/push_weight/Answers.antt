@@ -1,7 +1,8 @@
 use Rattle.std.proofs.Common.{append-nil, sym, ◌++◌}
 use Rattle.std.specs.Prelude.{codes, decimal}
 use Rattle.net_values.specs.Canon.{weight_text}
-use Rattle.pnml_write.proofs.Labels.{joined, finished, weight_none, weight_full}
+use Rattle.pnml_write.proofs.Pieces.{joined, finished}
+use Rattle.pnml_write.proofs.Labels.{weight_none, weight_full}
 use Rattle.pnml_write.proofs.markup.Markup.push_weight.Goals as goal
 
 pub returns-then-weight-eq1 : goal.returns-then-weight-eq1
