@@ -4,3 +4,6 @@ pub mod Items
 pub mod Canon
 pub mod Valued
 pub mod Plain
+pub mod PlaceSets
+pub mod Vectors
+pub mod TheList

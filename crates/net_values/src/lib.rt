@@ -5,11 +5,19 @@
 mod document;
 mod list;
 mod no_memory;
+mod place_set;
+mod rows;
+mod sets;
 mod text;
+mod vector;
 
 pub use document::{
     ArcNode, Document, Item, Items, NetTree, PageNode, PlaceNode, RefNode, TransitionNode,
 };
 pub use list::{CopyList, List};
 pub use no_memory::NoMemory;
+pub use place_set::PlaceSet;
+pub use rows::Rows;
+pub use sets::Sets;
 pub use text::Text;
+pub use vector::Vector;

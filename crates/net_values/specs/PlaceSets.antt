@@ -1,0 +1,14 @@
+-- Sets of places, as the lists of truth values that tell for each place whether it is in.
+use Rattle.std.specs.Prelude.{◌≡◌, ℕ, List, Bool, false, IsTrue, slice_index_or}
+
+-- the place is in the set; a place past its size isn't
+abbrev pub has : List Bool → ℕ → Bool
+has set p = slice_index_or set p false
+
+-- no place is in the set
+abbrev pub IsEmpty : List Bool → Type 0
+IsEmpty set = (p : ℕ) → has set p ≡ false
+
+-- each place of the first set is in the second
+abbrev pub IsSubset : List Bool → List Bool → Type 0
+IsSubset set other = (p : ℕ) → IsTrue (has set p) → IsTrue (has other p)

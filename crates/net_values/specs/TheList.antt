@@ -1,0 +1,18 @@
+-- Lists of lists: all of one length, and in strictly ascending lexicographic order.
+use Rattle.std.specs.Prelude.{◌≡◌, ◌↔◌, ℕ, List, length, All, AllPairs, Contains}
+use Rattle.std.specs.declared.cmp.Ordering.{Ordering}
+use Rattle.std.specs.declared.cmp.Ordering.TheVariants.{Less}
+
+-- all members have one length
+pub record HaveOneLength {X : Type 0} (lists : List (List X)) : Type 0 where
+  pub common : ℕ
+  pub alike : All (λ list. length list ≡ common) lists
+
+-- each member is below the later ones
+abbrev pub IsStrictlyAscending : {X : Type 0} → (X → X → Ordering) → List X → Type 0
+IsStrictlyAscending compare list = AllPairs (λ one later. compare one later ≡ Less) list
+
+-- the list of the things that have a property: they are its members, and it is strictly ascending
+pub record IsTheList {X : Type 0} (compare : X → X → Ordering) (Property : X → Type 0) (list : List X) : Type 0 where
+  pub ascending : IsStrictlyAscending compare list
+  pub members : (x : X) → (Contains list x) ↔ Property x

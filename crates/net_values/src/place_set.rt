@@ -1,0 +1,140 @@
+ghost use Rattle.std.specs.Prelude.{◌≡◌, ◌<◌, ◌≤◌, ◌↔◌, IsTrue, IfOk, length, replicate, slice_set, true, false};
+ghost use Rattle.std.proofs.Common.{rules};
+ghost use Rattle.std.specs.Cmp.{partial_order_from_own_ties};
+ghost use Rattle.std.specs.Cmp.Lexicographic.{slice_cmp};
+ghost use Rattle.std.specs.Cmp.Rules.{comparing};
+ghost use Rattle.std.specs.Ordering.{is_eq, as_partial_cmp, bool_cmp};
+ghost use Rattle.net_values.specs.PlaceSets.{has, IsEmpty, IsSubset};
+
+use crate::no_memory::NoMemory;
+use std::alloc::Global;
+use std::cmp::Ordering;
+use std::marker::Model;
+
+/// A set of place numbers below a fixed size. Contracts see it as the list of truth values that tell for
+/// each place whether it is in.
+#[derive(Drop)]
+pub struct PlaceSet {
+    members: Vec<bool>,
+}
+
+impl Model for PlaceSet {
+    ghost use Rattle.std.specs.Prelude.{List, Bool, ◌≤◌, length};
+
+    ghost Value = { List Bool };
+
+    ghost view = { λ s. s.members.items };
+
+    ghost invariant = { λ s. length s.members.items ≤ 4096 };
+}
+
+impl PlaceSet {
+    /// The empty set of this size, which is at most 4,096.
+    pub fn new(alloc: Global, size: usize) -> Result<PlaceSet, NoMemory>
+        requires { size ≤ 4096 }
+        ensures { IfOk result (λ set. set ≡ replicate size false) }
+    {
+        Ok(PlaceSet {
+            members: vec![in alloc; false; size]?,
+        })
+    }
+
+    /// An equal set.
+    pub fn copy(&self, alloc: Global) -> Result<PlaceSet, NoMemory>
+        ensures { IfOk result (λ set. set ≡ self.now) }
+    {
+        Ok(PlaceSet {
+            members: Vec::from_slice(alloc, self.members.as_slice())?,
+        })
+    }
+
+    /// The size: each place in the set is below it.
+    pub fn size(&self) -> usize
+        ensures value { result ≡ length self.now }
+        ensures bound { result ≤ 4096 }
+    {
+        self.members.len()
+    }
+
+    /// Whether place `p` is in the set.
+    pub fn contains(&self, p: usize) -> bool
+        requires { p < length self.now }
+        ensures { result ≡ has self.now p }
+    {
+        self.members[p]
+    }
+
+    /// Whether no place is in the set.
+    pub fn is_empty(&self) -> bool
+        ensures { IsTrue result ↔ IsEmpty self.now }
+    {
+        self.members.iter().all(|member| !*member)
+    }
+
+    /// Puts place `p` into the set.
+    pub fn insert(&mut self, p: usize)
+        requires { p < length self.old }
+        ensures { self.new ≡ slice_set self.old p true }
+    {
+        self.members[p] = true;
+    }
+
+    /// Takes place `p` out of the set.
+    pub fn remove(&mut self, p: usize)
+        requires { p < length self.old }
+        ensures { self.new ≡ slice_set self.old p false }
+    {
+        self.members[p] = false;
+    }
+
+    /// Whether each place of this set is in the other, of the same size.
+    pub fn is_subset(&self, other: &PlaceSet) -> bool
+        requires { length self.now ≡ length other.now }
+        ensures { IsTrue result ↔ IsSubset self.now other.now }
+    {
+        self.members
+            .iter()
+            .zip(other.members.as_slice())
+            .all(|(member, in_other)| !*member || *in_other)
+    }
+}
+
+impl PartialEq for PlaceSet {
+    ghost eq = { λ a b. is_eq (slice_cmp bool_cmp a b) };
+
+    ghost laws = { Prim.search (comparing, rules) };
+
+    fn eq(&self, other: &PlaceSet) -> bool {
+        self.members.cmp(&other.members).is_eq()
+    }
+}
+
+impl Eq for PlaceSet {
+    ghost laws = { Prim.search (comparing, rules) };
+}
+
+impl PartialOrd for PlaceSet {
+    ghost partial_cmp = { as_partial_cmp (slice_cmp bool_cmp) };
+
+    ghost laws = { partial_order_from_own_ties (Prim.search (comparing, rules))
+        (Prim.search (comparing, rules)) };
+
+    fn partial_cmp(&self, other: &PlaceSet) -> Option<Ordering> {
+        Some(self.cmp(other))
+    }
+}
+
+/// Sets of one size in lexicographic order, each compared as its list of 0 and 1.
+impl Ord for PlaceSet {
+    ghost cmp = { slice_cmp bool_cmp };
+
+    ghost total = { Prim.search (comparing, rules) };
+
+    ghost matches_partial_cmp = { Prim.search (comparing, rules) };
+
+    ghost matches_eq = { Prim.search (comparing, rules) };
+
+    fn cmp(&self, other: &PlaceSet) -> Ordering {
+        self.members.cmp(&other.members)
+    }
+}

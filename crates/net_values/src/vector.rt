@@ -1,0 +1,132 @@
+ghost use Rattle.std.specs.Prelude.{◌≡◌, ◌<◌, ◌≤◌, ◌^◌, ◌≤ℤ◌, IfOk, All, pos, length, replicate, slice_index, slice_set};
+ghost use Rattle.std.proofs.Common.{rules};
+ghost use Rattle.std.specs.Cmp.{partial_order_from_own_ties};
+ghost use Rattle.std.specs.Cmp.Lexicographic.{slice_cmp};
+ghost use Rattle.std.specs.Cmp.Rules.{comparing};
+ghost use Rattle.std.specs.Ordering.{is_eq, as_partial_cmp, nat_cmp};
+ghost use Rattle.net_values.specs.Vectors.{IsVector, positive_part};
+
+use crate::no_memory::NoMemory;
+use std::alloc::Global;
+use std::cmp::Ordering;
+use std::marker::Model;
+
+/// A list of at most 4,096 entries, none negative. Contracts see it as the list of natural numbers.
+#[derive(Drop)]
+pub struct Vector {
+    entries: Vec<u128>,
+}
+
+impl Model for Vector {
+    ghost use Rattle.std.specs.Prelude.{List, ℕ};
+    ghost use Rattle.net_values.specs.Vectors.{IsVector};
+
+    ghost Value = { List ℕ };
+
+    ghost view = { λ v. v.entries.items };
+
+    ghost invariant = { λ v. IsVector v.entries.items };
+}
+
+impl Vector {
+    /// The vector of this many zeros, at most 4,096.
+    pub fn zeros(alloc: Global, length: usize) -> Result<Vector, NoMemory>
+        requires { length ≤ 4096 }
+        ensures { IfOk result (λ vector. vector ≡ replicate length 0) }
+    {
+        Ok(Vector {
+            entries: vec![in alloc; 0u128; length]?,
+        })
+    }
+
+    /// The vector with these entries, each at most 2^127 - 1. It takes no memory.
+    pub fn from_entries(entries: Vec<u128>) -> Vector
+        requires { IsVector entries.items }
+        ensures { result ≡ entries.items }
+    {
+        Vector { entries }
+    }
+
+    /// An equal vector.
+    pub fn copy(&self, alloc: Global) -> Result<Vector, NoMemory>
+        ensures { IfOk result (λ vector. vector ≡ self.now) }
+    {
+        Ok(Vector {
+            entries: Vec::from_slice(alloc, self.entries.as_slice())?,
+        })
+    }
+
+    /// The number of entries.
+    pub fn len(&self) -> usize
+        ensures value { result ≡ length self.now }
+        ensures bound { result ≤ 4096 }
+    {
+        self.entries.len()
+    }
+
+    /// Entry `i`, counted from 0.
+    pub fn get(&self, i: usize) -> i128
+        requires { i < length self.now }
+        ensures value { result ≡ pos (slice_index self.now i) }
+        ensures bound { slice_index self.now i < 2 ^ 127 }
+    {
+        self.entries[i] as i128
+    }
+
+    /// The entries in order, each at most 2^127 - 1.
+    pub fn as_slice(&self) -> &[u128]
+        ensures value { result.now ≡ self.now }
+        ensures bound { IsVector self.now }
+    {
+        self.entries.as_slice()
+    }
+
+    /// Puts a value, which isn't negative, in the place of entry `i`.
+    pub fn set(&mut self, i: usize, value: i128)
+        requires within { i < length self.old }
+        requires natural { pos 0 ≤ℤ value }
+        ensures { self.new ≡ slice_set self.old i (positive_part value) }
+    {
+        self.entries[i] = value.unsigned_abs();
+    }
+}
+
+impl PartialEq for Vector {
+    ghost eq = { λ a b. is_eq (slice_cmp nat_cmp a b) };
+
+    ghost laws = { Prim.search (comparing, rules) };
+
+    fn eq(&self, other: &Vector) -> bool {
+        self.entries.cmp(&other.entries).is_eq()
+    }
+}
+
+impl Eq for Vector {
+    ghost laws = { Prim.search (comparing, rules) };
+}
+
+impl PartialOrd for Vector {
+    ghost partial_cmp = { as_partial_cmp (slice_cmp nat_cmp) };
+
+    ghost laws = { partial_order_from_own_ties (Prim.search (comparing, rules))
+        (Prim.search (comparing, rules)) };
+
+    fn partial_cmp(&self, other: &Vector) -> Option<Ordering> {
+        Some(self.cmp(other))
+    }
+}
+
+/// Vectors in lexicographic order of their entries.
+impl Ord for Vector {
+    ghost cmp = { slice_cmp nat_cmp };
+
+    ghost total = { Prim.search (comparing, rules) };
+
+    ghost matches_partial_cmp = { Prim.search (comparing, rules) };
+
+    ghost matches_eq = { Prim.search (comparing, rules) };
+
+    fn cmp(&self, other: &Vector) -> Ordering {
+        self.entries.cmp(&other.entries)
+    }
+}
