@@ -1,1 +1,2 @@
 pub mod OneLength
+pub mod Columns

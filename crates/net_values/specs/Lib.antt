@@ -7,3 +7,4 @@ pub mod Plain
 pub mod PlaceSets
 pub mod Vectors
 pub mod TheList
+pub mod Columns

@@ -2,6 +2,7 @@
 //! the plain list or record that it stands for.
 #![tactic(auto)]
 
+mod column;
 mod document;
 mod list;
 mod no_memory;
@@ -11,6 +12,7 @@ mod sets;
 mod text;
 mod vector;
 
+pub use column::{Column, WeightedPlace};
 pub use document::{
     ArcNode, Document, Item, Items, NetTree, PageNode, PlaceNode, RefNode, TransitionNode,
 };
