@@ -1,21 +1,18 @@
 -- The weight of a place in a column. Where no entry stands at the place it is 0; where one does it is
 -- that entry's weight, since the others stand elsewhere. A write at an entry or an entry more changes the
 -- sum by that entry alone.
-use Rattle.std.proofs.Common.{◌≡◌, ◌≢◌, refl, sym, ap, ◌∙◌, ℕ, zero, suc, ◌+◌, ◌<◌, ◌≤◌, ◌==◌, if◌then◌else◌, List, [], ◌∷◌, length, get_or, set, insert, All, AllPairs, sum_by, inl, inr, arith}
-use Rattle.std.specs.List.{AllWithin}
-use Rattle.std.proofs.lemmas.Bool.{cases_lt, cases_eq, cases_order}
+use Rattle.std.proofs.Common.{◌≡◌, ◌≢◌, refl, sym, ap, ◌∙◌, ℕ, zero, suc, ◌+◌, ◌<◌, List, [], ◌∷◌, length, get_or, Any, inl, inr, arith}
+use Rattle.std.proofs.lemmas.Bool.{cases_lt, cases_eq}
 use Rattle.std.proofs.lemmas.Bool.Decides.{nat_tests}
-use Rattle.std.proofs.lemmas.List.{get_or-set_same, get_or-set_other, length-set, get_or_default}
-use Rattle.std.proofs.lemmas.List.Edits.{length-insert, get_or-insert_below, get_or-insert_at, get_or-insert_above}
-use Rattle.std.proofs.lemmas.List.Sums.{sum_by-cons, sum_by-set, sum_by-insert, get_or-le-sum_by}
+use Rattle.std.proofs.lemmas.List.{get_or_default}
+use Rattle.std.proofs.lemmas.List.Sums.{sum_by-cons}
 use Rattle.net_values.specs.declared.column.WeightedPlace.{WeightedPlace}
-use Rattle.std.proofs.Common.{Result, Ok, Err, MatchResult, drop}
-use Rattle.std.specs.List.{HoldsAt}
+use Rattle.std.proofs.Common.{Result, Ok, Err, MatchResult}
 use Rattle.std.specs.List.Sorted.{IsSearchInRange, IsBinarySearchResult, IsSortedBy}
 use Rattle.std.specs.Ordering.{nat_cmp, is_lt}
-use Rattle.std.proofs.lemmas.Cmp.{ranked, nat_cmp_total}
+use Rattle.std.proofs.lemmas.Cmp.{nat_cmp_total}
 use Rattle.std.proofs.lemmas.List.Sorted.{searchable_from_sorted}
-use Rattle.net_values.specs.Columns.{part_at, weight_at, IsColumn, AddsAt, StandsAt, BelongsAt, Lists}
+use Rattle.net_values.specs.Columns.{part_at, weight_at, IsColumn, StandsAt, BelongsAt, Lists}
 
 pub part_same : (p : ℕ) (entry : WeightedPlace) → entry.place ≡ p → part_at p entry ≡ entry.weight
 part_same p entry same = grind (arith, nat_tests)
@@ -66,16 +63,16 @@ found column p (Err k) h bound result =
 pub others_elsewhere : (column : List WeightedPlace) (k : ℕ) → IsColumn column → k < length column → (i : ℕ) (d : WeightedPlace) → i < length column → i ≢ k → (get_or column i d).place ≢ (get_or column k d).place
 others_elsewhere column k h within i d here other =
     elim (cases_lt i k) [
-      inl below ↦ let up = h.ascending i k d below within in omega arith
-    | inr above ↦ let up = h.ascending k i d (omega arith) here in omega arith
+      | inl below ↦ let up = h.ascending i k d below within in omega arith
+      | inr above ↦ let up = h.ascending k i d (omega arith) here in omega arith
     ]
 
 -- what a search that found an entry tells of the weight
 pub weight_found : (column : List WeightedPlace) (p k : ℕ) (entry : WeightedPlace) → IsColumn column → StandsAt column p k → entry ≡ get_or column k entry → entry.weight ≡ weight_at column p
 weight_found column p k entry h stands read =
     let one =
-        weight_one column p k entry stands.within (stands.place entry)
-        (λ i e here other. let same = stands.place e in let apart = others_elsewhere column k h stands.within i e here other in omega arith) in
+    weight_one column p k entry stands.within (stands.place entry)
+    (λ i e here other. let same = stands.place e in let apart = others_elsewhere column k h stands.within i e here other in omega arith) in
     ap (λ (x : WeightedPlace). x.weight) read ∙ sym one
 
 -- what a search that found none tells of it
@@ -84,6 +81,36 @@ weight_missing column p k belongs =
     sym
     (weight_none column p
     (λ i d here. elim (cases_lt i k) [
-      inl below ↦ let less = belongs.below i d (omega arith) below in omega arith
-    | inr above ↦ let more = belongs.above i d above here in omega arith
+      | inl below ↦ let less = belongs.below i d (omega arith) below in omega arith
+      | inr above ↦ let more = belongs.above i d above here in omega arith
     ]))
+
+-- an entry has the weight of its place
+pub weight_here : (column : List WeightedPlace) (k : ℕ) (d : WeightedPlace) → IsColumn column → k < length column → (get_or column k d).weight ≡ weight_at column (get_or column k d).place
+weight_here column k d h within =
+    sym (weight_one column (get_or column k d).place k d within refl (λ i e here other.
+    let apart = others_elsewhere column k h within i e here other in
+    let same : (get_or column k e).place ≡ (get_or column k d).place = ap (λ (x : WeightedPlace). x.place) (get_or_default column k e d within) in
+    omega arith))
+
+-- a positive weight has its entry
+pub entry_of_weight : (column : List WeightedPlace) (p : ℕ) → 0 < weight_at column p → Any (λ entry. entry.place ≡ p) column
+entry_of_weight [] p some = absurd (omega arith)
+entry_of_weight (entry ∷ column) p some =
+    elim (cases_eq entry.place p) [
+      | inl here ↦ (0, entry, omega arith, refl, here)
+      | inr other ↦
+          let first = part_other p entry other in
+          let rest : 0 < weight_at column p = omega (arith, sum_by-cons (part_at p) entry column) in
+          let found = entry_of_weight column p rest in
+          (suc found.0, found.1, omega (arith, found.2), found.3, found.4)
+    ]
+
+-- a column lists its own weights
+pub lists_itself : (places : ℕ) (column : List WeightedPlace) → IsColumn column → ((p : ℕ) → 0 < weight_at column p → p < places) → Lists places (weight_at column) column
+lists_itself places column h within = record {
+  column = h;
+  within = λ k d here. within (get_or column k d).place (let same = weight_here column k d h here in let some = h.positive k d here in omega arith);
+  sound = λ k d here. weight_here column k d h here;
+  complete = entry_of_weight column;
+}

@@ -1,2 +1,3 @@
 pub mod OneLength
 pub mod Columns
+pub mod FlatNets

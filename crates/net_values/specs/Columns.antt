@@ -32,7 +32,8 @@ pub record BelongsAt (column : List WeightedPlace) (p : ℕ) (k : ℕ) : Type 0 
   pub above : AllWithin (λ entry. p < entry.place) column k (length column)
 
 -- the entries list the places with a positive weight, ascending, each with its weight
-pub record Lists (weights : ℕ → ℕ) (entries : List WeightedPlace) : Type 0 where
+pub record Lists (places : ℕ) (weights : ℕ → ℕ) (entries : List WeightedPlace) : Type 0 where
   pub column : IsColumn entries
+  pub within : All (λ entry. entry.place < places) entries
   pub sound : All (λ entry. entry.weight ≡ weights entry.place) entries
   pub complete : (p : ℕ) → 0 < weights p → Any (λ entry. entry.place ≡ p) entries

@@ -8,3 +8,5 @@ pub mod PlaceSets
 pub mod Vectors
 pub mod TheList
 pub mod Columns
+pub mod Net
+pub mod FlatNets

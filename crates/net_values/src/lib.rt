@@ -4,6 +4,7 @@
 
 mod column;
 mod document;
+mod flat_net;
 mod list;
 mod no_memory;
 mod place_set;
@@ -16,6 +17,7 @@ pub use column::{Column, WeightedPlace};
 pub use document::{
     ArcNode, Document, Item, Items, NetTree, PageNode, PlaceNode, RefNode, TransitionNode,
 };
+pub use flat_net::{FlatNet, FlatPlace, FlatTransition};
 pub use list::{CopyList, List};
 pub use no_memory::NoMemory;
 pub use place_set::PlaceSet;

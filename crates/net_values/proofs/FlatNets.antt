@@ -1,0 +1,119 @@
+-- What a change of the lists does to the net. A transition without arcs has weight 0 everywhere, as has
+-- one that isn't there; an arc more changes one column.
+use Rattle.std.proofs.Common.{◌≡◌, refl, sym, ap, ◌∙◌, subst, ℕ, zero, suc, ◌+◌, ◌^◌, ◌<◌, ◌≤◌, ◌==◌, ◌&&◌, if◌then◌else◌, List, [], ◌∷◌, length, map, All, get_or, set, inl, inr, arith}
+use Rattle.std.proofs.lemmas.Bool.{cases_eq}
+use Rattle.std.proofs.lemmas.Bool.Decides.{nat_tests}
+use Rattle.std.proofs.lemmas.List.{get_or-set_same, get_or-set_other, map-set, set-get_or, get_or-map, get_or_read, length-map}
+use Rattle.net_values.specs.declared.column.WeightedPlace.{WeightedPlace}
+use Rattle.net_values.specs.declared.flat_net.FlatTransition.{FlatTransition}
+use Rattle.net_values.specs.Columns.{weight_at, AddsAt, IsColumn, Lists}
+use Rattle.net_values.proofs.Columns.{weight_here, lists_itself}
+use Rattle.net_values.specs.FlatNets.{turned, NetLists, AreWeights, IsFlatNet, Adds, Keeps, KeepsNodes, AddsInput, AddsOutput}
+
+pub few_tokens : {places arcs : ℕ} {weights : ℕ → ℕ → ℕ} → AreWeights places arcs weights → arcs ≤ 65536 → (p t : ℕ) → weights p t < 2 ^ 80
+few_tokens h few p t = omega (arith, h.narrow p t)
+
+abbrev bare : List ℕ → FlatTransition
+bare id = record { id = id; inputs = []; outputs = [] }
+
+-- weights that stay are within the bounds as before
+still_weights : {places arcs : ℕ} {old new : ℕ → ℕ → ℕ} → AreWeights places arcs old → Keeps old new → AreWeights places arcs new
+still_weights h keeps = record {
+  within = λ p t some. h.within p t (omega (arith, keeps p t));
+  narrow = λ p t. omega (arith, h.narrow p t, keeps p t);
+}
+
+module _ (side : FlatTransition → List WeightedPlace) where
+  abbrev weights : List FlatTransition → ℕ → ℕ → ℕ
+  weights transitions p t = weight_at (side (get_or transitions t (bare []))) p
+
+  -- the weights of a transition that was read
+  pub read_narrow : (places arcs : ℕ) (transitions : List FlatTransition) (t p : ℕ) (transition : FlatTransition) → AreWeights places arcs (weights transitions) → arcs ≤ 65536 → t < length transitions → transition ≡ get_or transitions t transition → weight_at (side transition) p < 2 ^ 80
+  read_narrow places arcs transitions t p transition h few within read =
+      let same : transition ≡ get_or transitions t (bare []) = get_or_read transitions t transition within read (bare []) in
+      rw same (few_tokens h few p t)
+
+  adds_here : (transitions : List FlatTransition) (t p weight : ℕ) (old new : FlatTransition) → t < length transitions → old ≡ get_or transitions t old → AddsAt (side old) (side new) p weight → (q : ℕ) → weights (set transitions t new) q t ≡ weights transitions q t + (if q == p && t == t then weight else 0)
+  adds_here transitions t p weight old new within read adds q =
+      let before : old ≡ get_or transitions t (bare []) = get_or_read transitions t old within read (bare []) in
+      let after : get_or (set transitions t new) t (bare []) ≡ new = get_or-set_same transitions t new (bare []) within in
+      rw (after, ← before) (adds q ∙ grind (arith, nat_tests))
+
+  pub adds_one : (transitions : List FlatTransition) (t p weight : ℕ) (old new : FlatTransition) → t < length transitions → old ≡ get_or transitions t old → AddsAt (side old) (side new) p weight → Adds (weights transitions) (weights (set transitions t new)) p t weight
+  adds_one transitions t p weight old new within read adds q u =
+      elim (cases_eq u t) [
+        | inl same ↦ subst (λ v. weights (set transitions t new) q v ≡ weights transitions q v + (if q == p && v == t then weight else 0)) (sym same) (adds_here transitions t p weight old new within read adds q)
+        | inr other ↦ rw (get_or-set_other transitions t u new (bare []) other) (grind (arith, nat_tests))
+      ]
+
+  pub keeps_all : (transitions : List FlatTransition) (t : ℕ) (old new : FlatTransition) → t < length transitions → old ≡ get_or transitions t old → side new ≡ side old → Keeps (weights transitions) (weights (set transitions t new))
+  keeps_all transitions t old new within read same q u =
+      elim (cases_eq u t) [
+        | inl here ↦
+            let before : old ≡ get_or transitions t (bare []) = get_or_read transitions t old within read (bare []) in
+            let after : get_or (set transitions t new) t (bare []) ≡ new = get_or-set_same transitions t new (bare []) within in
+            rw (here, after, ← before) (ap (λ column. weight_at column q) same)
+        | inr other ↦ ap (λ transition. weight_at (side transition) q) (get_or-set_other transitions t u new (bare []) other)
+      ]
+
+  -- the entries of a column that was read are the weights of its transition
+  pub read_entries : (places arcs : ℕ) (transitions : List FlatTransition) (t : ℕ) (transition : FlatTransition) (column : List WeightedPlace) → AreWeights places arcs (weights transitions) → arcs ≤ 65536 → t < length transitions → transition ≡ get_or transitions t transition → column ≡ side transition → IsColumn column → Lists places (λ p. weights transitions p t) column × All (λ entry. entry.weight < 2 ^ 80) column
+  read_entries places arcs transitions t transition column h few within read is kept =
+      let same : column ≡ side (get_or transitions t (bare [])) = is ∙ ap side (get_or_read transitions t transition within read (bare [])) in
+      let weighs : (p : ℕ) → weight_at column p ≡ weights transitions p t = λ p. ap (λ (entries : List WeightedPlace). weight_at entries p) same in (
+        subst (λ (entries : List WeightedPlace). Lists places (λ p. weight_at entries p) column) same (lists_itself places column kept (λ p some. h.within p t (omega (arith, weighs p)))),
+        λ k d here.
+            let place : ℕ = (get_or column k d).place in
+            omega (arith, weight_here column k d kept here, weighs place, few_tokens h few place t),
+      )
+
+ids_kept : (transitions : List FlatTransition) (t : ℕ) (old new : FlatTransition) → t < length transitions → old ≡ get_or transitions t old → new.id ≡ old.id → map (λ (transition : FlatTransition). transition.id) (set transitions t new) ≡ map (λ (transition : FlatTransition). transition.id) transitions
+ids_kept transitions t old new within read same =
+    let ids : List (List ℕ) = map (λ (transition : FlatTransition). transition.id) transitions in
+    let id_at : get_or ids t [] ≡ new.id =
+    get_or-map (λ (transition : FlatTransition). transition.id) transitions t old [] within ∙ ap (λ (transition : FlatTransition). transition.id) (sym read) ∙ sym same in
+    map-set (λ (transition : FlatTransition). transition.id) transitions t new ∙ rw (← id_at) (set-get_or ids t [])
+
+pub input_added : (lists : NetLists) (p t weight : ℕ) (old : FlatTransition) (column : List WeightedPlace) → t < length lists.transitions → old ≡ get_or lists.transitions t old → AddsAt old.inputs column p weight → AddsInput lists record { places = lists.places; transitions = set lists.transitions t record { id = old.id; inputs = column; outputs = old.outputs }; arcs = lists.arcs + 1 } p t weight
+input_added lists p t weight old column within read adds =
+    let new : FlatTransition = record { id = old.id; inputs = column; outputs = old.outputs } in
+    record {
+      pre = adds_one (λ transition. transition.inputs) lists.transitions t p weight old new within read adds;
+      post = keeps_all (λ transition. transition.outputs) lists.transitions t old new within read refl;
+      nodes = record { places = refl; transitions = ids_kept lists.transitions t old new within read refl };
+      arcs = refl;
+    }
+
+pub output_added : (lists : NetLists) (t p weight : ℕ) (old : FlatTransition) (column : List WeightedPlace) → t < length lists.transitions → old ≡ get_or lists.transitions t old → AddsAt old.outputs column p weight → AddsOutput lists record { places = lists.places; transitions = set lists.transitions t record { id = old.id; inputs = old.inputs; outputs = column }; arcs = lists.arcs + 1 } t p weight
+output_added lists t p weight old column within read adds =
+    let new : FlatTransition = record { id = old.id; inputs = old.inputs; outputs = column } in
+    record {
+      pre = keeps_all (λ transition. transition.inputs) lists.transitions t old new within read refl;
+      post = adds_one (λ transition. transition.outputs) lists.transitions t p weight old new within read adds;
+      nodes = record { places = refl; transitions = ids_kept lists.transitions t old new within read refl };
+      arcs = refl;
+    }
+
+turned_at : (transitions : List FlatTransition) (u : ℕ) → get_or (map turned transitions) u (bare []) ≡ turned (get_or transitions u (bare []))
+turned_at [] u = refl
+turned_at (transition ∷ transitions) zero = refl
+turned_at (transition ∷ transitions) (suc u) = turned_at transitions u
+
+turned_ids : (transitions : List FlatTransition) → map (λ (transition : FlatTransition). transition.id) (map turned transitions) ≡ map (λ (transition : FlatTransition). transition.id) transitions
+turned_ids [] = refl
+turned_ids (transition ∷ transitions) = ap (λ ids. transition.id ∷ ids) (turned_ids transitions)
+
+abbrev turned_lists : NetLists → NetLists
+turned_lists lists = record { places = lists.places; transitions = map turned lists.transitions; arcs = lists.arcs }
+
+pub turned_net : (lists : NetLists) → IsFlatNet lists → IsFlatNet (turned_lists lists)
+turned_net lists h = record {
+  places = h.places;
+  transitions = omega (arith, h.transitions, length-map lists.transitions turned);
+  arcs = h.arcs;
+  pre = still_weights h.post (λ q u. ap (λ (transition : FlatTransition). weight_at transition.inputs q) (turned_at lists.transitions u));
+  post = still_weights h.pre (λ q u. ap (λ (transition : FlatTransition). weight_at transition.outputs q) (turned_at lists.transitions u));
+}
+
+pub turned_nodes : (lists : NetLists) → KeepsNodes lists (turned_lists lists)
+turned_nodes lists = record { places = refl; transitions = turned_ids lists.transitions }
