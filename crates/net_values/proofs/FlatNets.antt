@@ -1,14 +1,15 @@
 -- What a change of the lists does to the net. A transition without arcs has weight 0 everywhere, as has
 -- one that isn't there; an arc more changes one column.
-use Rattle.std.proofs.Common.{◌≡◌, refl, sym, ap, ◌∙◌, subst, ℕ, zero, suc, ◌+◌, ◌^◌, ◌<◌, ◌≤◌, ◌==◌, ◌&&◌, if◌then◌else◌, List, [], ◌∷◌, length, map, All, get_or, set, inl, inr, arith}
+use Rattle.std.proofs.Common.{◌≡◌, refl, sym, ap, ◌∙◌, subst, ℕ, zero, suc, ◌+◌, ◌^◌, ◌<◌, ◌≤◌, ◌==◌, ◌&&◌, if◌then◌else◌, List, [], ◌∷◌, ◌++◌, length, map, take, All, get_or, set, inl, inr, arith}
 use Rattle.std.proofs.lemmas.Bool.{cases_eq}
 use Rattle.std.proofs.lemmas.Bool.Decides.{nat_tests}
-use Rattle.std.proofs.lemmas.List.{get_or-set_same, get_or-set_other, map-set, set-get_or, get_or-map, get_or_read, length-map}
+use Rattle.std.proofs.lemmas.List.{get_or-set_same, get_or-set_other, map-set, set-get_or, get_or-map, get_or_read, length-map, take_more}
 use Rattle.net_values.specs.declared.column.WeightedPlace.{WeightedPlace}
+use Rattle.net_values.specs.declared.flat_net.FlatPlace.{FlatPlace}
 use Rattle.net_values.specs.declared.flat_net.FlatTransition.{FlatTransition}
 use Rattle.net_values.specs.Columns.{weight_at, AddsAt, IsColumn, Lists}
 use Rattle.net_values.proofs.Columns.{weight_here, lists_itself}
-use Rattle.net_values.specs.FlatNets.{turned, NetLists, AreWeights, IsFlatNet, Adds, Keeps, KeepsNodes, AddsInput, AddsOutput}
+use Rattle.net_values.specs.FlatNets.{turned, initial_marking, net_of, NetLists, AreWeights, IsFlatNet, Adds, Keeps, KeepsNodes, AddsInput, AddsOutput}
 
 pub few_tokens : {places arcs : ℕ} {weights : ℕ → ℕ → ℕ} → AreWeights places arcs weights → arcs ≤ 65536 → (p t : ℕ) → weights p t < 2 ^ 80
 few_tokens h few p t = omega (arith, h.narrow p t)
@@ -117,3 +118,9 @@ turned_net lists h = record {
 
 pub turned_nodes : (lists : NetLists) → KeepsNodes lists (turned_lists lists)
 turned_nodes lists = record { places = refl; transitions = turned_ids lists.transitions }
+
+-- the initial marking of one place more
+pub initial_more : (lists : NetLists) (p : ℕ) → p < length lists.places → take (p + 1) (initial_marking lists) ≡ take p (initial_marking lists) ++ (net_of lists).initial p ∷ []
+initial_more lists p within =
+    let marked : get_or (initial_marking lists) p 0 ≡ (net_of lists).initial p = get_or-map (λ (place : FlatPlace). place.initial) lists.places p record { id = []; initial = 0 } 0 within in
+    take_more (initial_marking lists) p 0 (omega (arith, length-map lists.places (λ (place : FlatPlace). place.initial))) ∙ ap (λ tokens. take p (initial_marking lists) ++ tokens ∷ []) marked

@@ -1,3 +1,5 @@
 pub mod OneLength
 pub mod Columns
 pub mod FlatNets
+pub mod TokenCounts
+pub mod Lowest

@@ -33,6 +33,10 @@ net_of lists = record {
   initial = λ p. (place_at lists p).initial;
 }
 
+-- the initial marking as a list
+abbrev pub initial_marking : NetLists → List ℕ
+initial_marking lists = map (λ place. place.initial) lists.places
+
 -- positive at places alone, and at most the sum of this many arcs of weight 2^64 - 1
 pub record AreWeights (places arcs : ℕ) (weights : ℕ → ℕ → ℕ) : Type 0 where
   pub within : (p t : ℕ) → 0 < weights p t → p < places

@@ -10,3 +10,4 @@ pub mod TheList
 pub mod Columns
 pub mod Net
 pub mod FlatNets
+pub mod TokenGame

@@ -6,11 +6,13 @@ mod column;
 mod document;
 mod flat_net;
 mod list;
+mod marking;
 mod no_memory;
 mod place_set;
 mod rows;
 mod sets;
 mod text;
+mod token_game;
 mod vector;
 
 pub use column::{Column, WeightedPlace};
@@ -19,9 +21,11 @@ pub use document::{
 };
 pub use flat_net::{FlatNet, FlatPlace, FlatTransition};
 pub use list::{CopyList, List};
+pub use marking::Marking;
 pub use no_memory::NoMemory;
 pub use place_set::PlaceSet;
 pub use rows::Rows;
 pub use sets::Sets;
 pub use text::Text;
+pub use token_game::FireFault;
 pub use vector::Vector;
