@@ -44,7 +44,7 @@ impl Model for FlatNet {
 impl FlatNet {
     ghost use Rattle.std.specs.Prelude.{◌≡◌, [], ◌∷◌, ◌++◌, ◌<◌, ◌≤◌, ◌^◌, IfOk, OnOk, OnErr, All, length};
     ghost use Rattle.net_values.specs.Columns.{Lists};
-    ghost use Rattle.net_values.specs.FlatNets.{net_of, place_at, transition_at, AddsInput, AddsOutput, KeepsNodes};
+    ghost use Rattle.net_values.specs.FlatNets.{net_of, place_at, transition_at, IsFlatNet, AddsInput, AddsOutput, KeepsNodes};
     ghost use Rattle.net_values.specs.Net.{reversed};
 
     /// The empty net, which takes no memory until it grows.
@@ -113,26 +113,26 @@ impl FlatNet {
         Ok(())
     }
 
-    /// The number of places.
+    /// The number of places, which is at most 2,048.
     pub fn places(&self) -> usize
         ensures value { result ≡ (net_of self.now).places }
-        ensures bound { result ≤ 2048 }
+        ensures limits { IsFlatNet self.now }
     {
         self.places.len()
     }
 
-    /// The number of transitions.
+    /// The number of transitions, which is at most 2,048.
     pub fn transitions(&self) -> usize
         ensures value { result ≡ (net_of self.now).transitions }
-        ensures bound { result ≤ 2048 }
+        ensures limits { IsFlatNet self.now }
     {
         self.transitions.len()
     }
 
-    /// The number of arcs that were added.
+    /// The number of arcs that were added, which is at most 65,536.
     pub fn arcs(&self) -> usize
         ensures value { result ≡ self.now.arcs }
-        ensures bound { result ≤ 65536 }
+        ensures limits { IsFlatNet self.now }
     {
         self.arcs
     }

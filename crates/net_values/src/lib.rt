@@ -11,6 +11,8 @@ mod no_memory;
 mod place_set;
 mod rows;
 mod sets;
+#[cfg(test)]
+mod tests;
 mod text;
 mod token_game;
 mod vector;

@@ -1,0 +1,140 @@
+ghost use Rattle.std.specs.Prelude.{◌≡◌, ◌≤ℤ◌, IfOk, pos, length};
+
+use super::*;
+use std::alloc::Global;
+use std::process::Abort;
+use std::test::Fail;
+
+/// Two places and two transitions in a ring: p to t to q to u to p, with one token on p.
+fn ring(rt: &impl Abort, alloc: Global) -> Result<FlatNet, NoMemory> {
+    let mut net = FlatNet::new(alloc);
+    for (id, initial) in [("p", 1), ("q", 0)] {
+        assert!(rt; net.places() < 2);
+        net.add_place(Text::from_bytes(alloc, id.as_bytes())?, initial)?;
+    }
+    for id in ["t", "u"] {
+        assert!(rt; net.transitions() < 2);
+        net.add_transition(Text::from_bytes(alloc, id.as_bytes())?)?;
+    }
+    for (p, t, q) in [(0, 0, 1), (1, 1, 0)] {
+        assert!(rt; net.places() == 2 && net.transitions() == 2 && net.arcs() < 4);
+        net.add_input(p, t, 1)?;
+        net.add_output(t, q, 1)?;
+    }
+    Ok(net)
+}
+
+fn counts(rt: &impl Abort, marking: &Marking) -> (i128, i128) {
+    assert!(rt; marking.places() == 2);
+    (marking.get(0), marking.get(1))
+}
+
+#[test]
+fn nets_add_parallel_arcs_and_fire_within_the_limits(rt: HostRuntime) -> Result<(), Fail> {
+    let alloc = rt.alloc();
+    let mut net = ring(&rt, alloc)?;
+    assert!(rt; net.places() == 2 && net.transitions() == 2 && net.arcs() == 4);
+    let mut marking = Marking::initial(alloc, &net)?;
+    assert!(rt; marking.places() == net.places());
+    assert_eq!(rt; net.fire(&mut marking, 0), Ok(()));
+    assert_eq!(rt; counts(&rt, &marking), (0, 1));
+    assert_eq!(rt; net.fire(&mut marking, 0), Err(FireFault::NotEnabled(0)));
+    assert_eq!(rt; counts(&rt, &marking), (0, 1));
+
+    net.add_input(0, 0, u64::MAX)?;
+    assert!(rt; net.places() == 2 && net.transitions() == 2 && net.arcs() == 5);
+    assert_eq!(rt; net.pre(0, 0), 1 << 64, "parallel arcs are summed");
+    assert_eq!(rt; net.inputs(0).len(), 1, "under one entry");
+    let back = net.reverse(alloc)?;
+    assert!(rt; back.places() == 2 && back.transitions() == 2 && back.arcs() == 5);
+    assert_eq!(rt;
+        (back.post(0, 0), back.pre(0, 0), back.pre(1, 0)),
+        (1 << 64, 0, 1)
+    );
+    assert_eq!(rt;
+        (
+            back.place_id(1).as_bytes(),
+            back.transition_id(0).as_bytes()
+        ),
+        (b"q".as_slice(), b"t".as_slice())
+    );
+    assert_eq!(rt; (back.initial(0), back.initial(1)), (1, 0));
+    Ok(())
+}
+
+#[test]
+fn firing_never_makes_a_count_wide(rt: HostRuntime) -> Result<(), Fail> {
+    let alloc = rt.alloc();
+    let mut net = FlatNet::new(alloc);
+    net.add_place(Text::new(alloc), 0)?;
+    net.add_transition(Text::new(alloc))?;
+    net.add_output(0, 0, 1)?;
+    for (before, answer, after) in [
+        (i128::MAX, Err(FireFault::WideMarking(0)), i128::MAX),
+        (i128::MAX - 1, Ok(()), i128::MAX),
+        (0, Ok(()), 1),
+    ] {
+        assert!(rt; before >= 0);
+        let mut marking = Marking::from_counts(alloc, &[before])?;
+        assert!(rt; marking.places() == 1 && net.places() == 1 && net.transitions() == 1);
+        assert_eq!(rt; net.fire(&mut marking, 0), answer, "at {before}");
+        assert_eq!(rt; marking.get(0), after, "at {before}");
+    }
+    Ok(())
+}
+
+/// The vector with these two entries.
+fn pair(alloc: Global, high: i128, low: i128) -> Result<Vector, NoMemory>
+    requires high { pos 0 ≤ℤ high }
+    requires low { pos 0 ≤ℤ low }
+    ensures { IfOk result (λ vector. length vector ≡ 2) }
+{
+    let mut vector = Vector::zeros(alloc, 2)?;
+    vector.set(0, high);
+    vector.set(1, low);
+    Ok(vector)
+}
+
+#[test]
+fn rows_and_sets_are_sorted_and_cut(rt: HostRuntime) -> Result<(), Fail> {
+    let alloc = rt.alloc();
+    let mut rows = Rows::new(alloc);
+    let mut sets = Sets::new(alloc);
+    for (high, low) in [(2, 0), (0, 5), (0, 4), (2, 0)] {
+        assert!(rt; high >= 0 && low >= 0);
+        let row = pair(alloc, high, low)?;
+        assert!(rt; rows.as_slice().iter().all(|other| other.len() == row.len()));
+        rows.push(row.copy(alloc)?)?;
+        let mut set = PlaceSet::new(alloc, 2)?;
+        if high > 0 {
+            set.insert(0);
+        }
+        if low > 0 {
+            set.insert(1);
+        }
+        assert!(rt;
+            sets.as_slice()
+                .iter()
+                .all(|other| other.size() == set.size())
+        );
+        sets.push(set.copy(alloc)?)?;
+    }
+    rows.sort();
+    sets.sort();
+    assert!(rt; rows.len() == 4 && sets.len() == 4);
+    rows.truncate(3);
+    sets.truncate(3);
+    assert!(rt; rows.len() == 3 && sets.len() == 3);
+    let (first, least) = (rows.remove(0), sets.remove(0));
+    assert!(rt; rows.len() == 2 && sets.len() == 2);
+    assert!(rt;
+        first == pair(alloc, 0, 4)?
+            && *rows.get(0) == pair(alloc, 0, 5)?
+            && *rows.get(1) == pair(alloc, 2, 0)?
+    );
+    assert!(rt; least.size() == 2 && least.contains(1) && !least.contains(0) && !least.is_empty());
+    let most = sets.get(1);
+    assert!(rt; most.size() == 2 && most.contains(0) && !most.contains(1));
+    assert!(rt; least.is_subset(&least) && !least.is_subset(most) && !most.is_subset(&least));
+    Ok(())
+}
