@@ -120,7 +120,9 @@ pub turned_nodes : (lists : NetLists) → KeepsNodes lists (turned_lists lists)
 turned_nodes lists = record { places = refl; transitions = turned_ids lists.transitions }
 
 -- the initial marking of one place more
-pub initial_more : (lists : NetLists) (p : ℕ) → p < length lists.places → take (p + 1) (initial_marking lists) ≡ take p (initial_marking lists) ++ (net_of lists).initial p ∷ []
-initial_more lists p within =
+pub initial_more : (lists : NetLists) (p : ℕ) (counts more : List ℕ) (tokens : ℕ) → p < length lists.places → counts ≡ take p (initial_marking lists) → tokens ≡ (net_of lists).initial p → more ≡ counts ++ tokens ∷ [] → more ≡ take (p + 1) (initial_marking lists)
+initial_more lists p counts more tokens within so_far read pushed =
     let marked : get_or (initial_marking lists) p 0 ≡ (net_of lists).initial p = get_or-map (λ (place : FlatPlace). place.initial) lists.places p record { id = []; initial = 0 } 0 within in
-    take_more (initial_marking lists) p 0 (omega (arith, length-map lists.places (λ (place : FlatPlace). place.initial))) ∙ ap (λ tokens. take p (initial_marking lists) ++ tokens ∷ []) marked
+    let next : take (p + 1) (initial_marking lists) ≡ take p (initial_marking lists) ++ get_or (initial_marking lists) p 0 ∷ [] =
+    take_more (initial_marking lists) p 0 (omega (arith, length-map lists.places (λ (place : FlatPlace). place.initial))) in
+    cc

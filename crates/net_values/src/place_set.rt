@@ -105,7 +105,7 @@ impl PartialEq for PlaceSet {
     ghost laws = { Prim.search (comparing, rules) };
 
     fn eq(&self, other: &PlaceSet) -> bool {
-        self.members.cmp(&other.members).is_eq()
+        self.cmp(other).is_eq()
     }
 }
 

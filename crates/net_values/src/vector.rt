@@ -97,7 +97,7 @@ impl PartialEq for Vector {
     ghost laws = { Prim.search (comparing, rules) };
 
     fn eq(&self, other: &Vector) -> bool {
-        self.entries.cmp(&other.entries).is_eq()
+        self.cmp(other).is_eq()
     }
 }
 
