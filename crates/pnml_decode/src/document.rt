@@ -1,7 +1,8 @@
 ghost use Rattle.std.specs.Prelude.{◌≡◌, OnOk, IfOk, IfErr, List, ℕ};
 ghost use Rattle.net_values.specs.declared.document.Document.{Document as Tree};
 ghost use Rattle.net_values.specs.declared.document.Item.{Item as Listed};
-ghost use Rattle.net_values.specs.Plain.{PlainBytes, IsPlainId};
+ghost use Rattle.net_values.specs.Canon.{canon};
+ghost use Rattle.net_values.specs.Plain.{Plain, PlainBytes, IsPlainId};
 ghost use Rattle.pnml_decode.specs.Readable.{IsReadInner, IsPageOf, page_rest};
 
 use crate::fault::DocFault;
@@ -50,6 +51,12 @@ pub fn decode(alloc: Global, bytes: &[u8]) -> Result<Document, DocFault>
             items,
         },
     })
+}
+
+/// The law that two plain documents with one canonical text are one. It does nothing.
+pub fn canonical_text_tells_documents_apart()
+    ensures { (first second : Tree) → Plain first → Plain second → canon first ≡ canon second → first ≡ second }
+{
 }
 
 /// The law that bytes are those of at most one plain document. It does nothing.

@@ -13,5 +13,5 @@ mod number;
 mod opening;
 mod page;
 
-pub use document::{decode, one_document};
+pub use document::{canonical_text_tells_documents_apart, decode, one_document};
 pub use fault::DocFault;

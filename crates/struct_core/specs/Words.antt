@@ -1,7 +1,7 @@
 -- Which words mean which order.
 use Rattle.std.specs.Prelude.{◌≡◌, ℕ, List, [], ◌∷◌, codes}
 use Rattle.struct_core.specs.declared.order.Task.{Task}
-use Rattle.struct_core.specs.declared.order.Task.TheVariants.{Check}
+use Rattle.struct_core.specs.declared.order.Task.TheVariants.{Check, Canon}
 use Rattle.struct_core.specs.declared.order.Order.{Order}
 use Rattle.struct_core.specs.declared.order.Order.TheVariants.{Run}
 use Rattle.struct_core.specs.declared.order.Budgets.{Budgets}
@@ -9,6 +9,7 @@ use Rattle.struct_core.specs.declared.order.Budgets.{Budgets}
 -- the word of a task
 abbrev pub task_word : Task → List ℕ
 task_word Check = codes "check"
+task_word Canon = codes "canon"
 
 -- the budgets where none are said
 abbrev pub default_budgets : Budgets

@@ -7,6 +7,7 @@ use crate::refusal::Refusal;
 use crate::report::check_text;
 use net_values::Text;
 use pnml_decode::{DocFault, decode};
+use pnml_write::canonical;
 use std::alloc::Global;
 
 /// The text of an order for an input.
@@ -23,6 +24,7 @@ pub(crate) fn answer(alloc: Global, order: Order, bytes: &[u8]) -> Result<Text, 
     };
     let text = match task {
         Task::Check => check_text(alloc, &document),
+        Task::Canon => canonical(alloc, &document),
     };
     match text {
         Ok(text) => Ok(text),

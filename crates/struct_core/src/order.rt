@@ -3,6 +3,8 @@
 pub enum Task {
     /// The numbers of places, transitions and arcs.
     Check,
+    /// The canonical text of the document.
+    Canon,
 }
 
 /// How much the enumerations may take.

@@ -11,6 +11,8 @@ pub type Words = List<Text>;
 
 const CHECK: &[u8] = b"check";
 
+const CANON: &[u8] = b"canon";
+
 const DEFAULT_BUDGETS: Budgets = Budgets {
     rows: 20_000,
     sets: 100_000,
@@ -35,6 +37,8 @@ fn task_of(word: &[u8]) -> Option<Task>
 {
     if word == CHECK {
         Some(Task::Check)
+    } else if word == CANON {
+        Some(Task::Canon)
     } else {
         None
     }

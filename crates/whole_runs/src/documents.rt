@@ -1,11 +1,11 @@
-use crate::fixture::{CHECK, FRONT, NOT_PLAIN, REAR, Row, check_row};
+use crate::fixture::{CHECK, FRONT, NOT_PLAIN, REAR, Row, check_row, joined};
 use net_values::NoMemory;
 use std::alloc::Global;
 use std::process::Abort;
 use std::test::Fail;
 
 #[test]
-fn plain_documents_are_counted(rt: HostRuntime) -> Result<(), Fail> {
+fn plain_documents_are_counted_and_written_as_they_are(rt: HostRuntime) -> Result<(), Fail> {
     let rows: [(&'static [&'static [u8]], &'static [u8]); 6] = [
         (
             &[FRONT, b"<page id=\"g\"/>", REAR],
@@ -54,9 +54,18 @@ fn plain_documents_are_counted(rt: HostRuntime) -> Result<(), Fail> {
     ];
     for (input, out) in rows {
         let row = Row {
-            shows: "a plain document",
+            shows: "the counts of a plain document",
             input,
             out,
+            ..CHECK
+        };
+        check_row(&rt, rt.alloc(), &row)?;
+        let text = joined(rt.alloc(), input)?;
+        let row = Row {
+            shows: "the canonical text of a plain document",
+            words: &["canon"],
+            input,
+            out: text.as_slice(),
             ..CHECK
         };
         check_row(&rt, rt.alloc(), &row)?;
@@ -64,21 +73,26 @@ fn plain_documents_are_counted(rt: HostRuntime) -> Result<(), Fail> {
     Ok(())
 }
 
-/// An input that is no plain document's.
+/// An input that is no plain document's, for both tasks.
 fn refused(
     rt: &impl Abort,
     alloc: Global,
     shows: &'static str,
     input: &[&[u8]],
 ) -> Result<(), NoMemory> {
-    let row = Row {
-        shows,
-        input,
-        status: 3,
-        err: NOT_PLAIN,
-        ..CHECK
-    };
-    check_row(rt, alloc, &row)
+    let words: [&[&str]; 2] = [&["check"], &["canon"]];
+    for words in words {
+        let row = Row {
+            shows,
+            words,
+            input,
+            status: 3,
+            err: NOT_PLAIN,
+            ..CHECK
+        };
+        check_row(rt, alloc, &row)?;
+    }
+    Ok(())
 }
 
 #[test]

@@ -18,7 +18,7 @@ pub const USAGE: &[u8] = b"usage: pnmlstruct TASK [--rows N] [--sets N], or pnml
 #[derive(Drop)]
 pub struct Row<'a> {
     pub shows: &'static str,
-    pub words: &'static [&'static str],
+    pub words: &'a [&'a str],
     /// The input, in parts that stand one behind the other.
     pub input: &'a [&'a [u8]],
     /// How the source cuts the input, and which of its reads fail.
@@ -30,7 +30,7 @@ pub struct Row<'a> {
     /// Which writes of the sink for the fault line fail.
     pub failing_lines: &'static [u64],
     pub status: u8,
-    pub out: &'static [u8],
+    pub out: &'a [u8],
     pub err: &'static [u8],
 }
 
@@ -59,7 +59,8 @@ fn words(alloc: Global, given: &[&str]) -> Result<Words, NoMemory> {
     Ok(words)
 }
 
-fn joined(alloc: Global, parts: &[&[u8]]) -> Result<Vec<u8>, NoMemory> {
+/// The parts of an input, one behind the other.
+pub fn joined(alloc: Global, parts: &[&[u8]]) -> Result<Vec<u8>, NoMemory> {
     let mut bytes = Vec::new(alloc);
     for part in parts {
         bytes.extend_from_slice(part)?;
