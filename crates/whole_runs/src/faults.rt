@@ -127,6 +127,14 @@ fn words_and_devices_end_a_run_by_their_status(rt: HostRuntime) -> Result<(), Fa
             ..CHECK
         },
         Row {
+            shows: "a document to be written again that isn't plain",
+            words: &["canon"],
+            input: &[FRONT, b"<page id=\"g\"/></net></pnml>"],
+            status: 3,
+            err: NOT_PLAIN,
+            ..CHECK
+        },
+        Row {
             shows: "a refused document",
             input: &[b"<x/>"],
             status: 3,
@@ -148,13 +156,25 @@ fn one_byte_above_the_limit_is_too_long(rt: HostRuntime) -> Result<(), Fail> {
         err: NOT_PLAIN,
         ..CHECK
     };
-    check_input(&rt, rt.alloc(), &longest, spaces(rt.alloc(), 67_108_864)?)?;
+    check_input(
+        &rt,
+        rt.alloc(),
+        &longest,
+        spaces(rt.alloc(), 67_108_864)?,
+        b"",
+    )?;
     let longer = Row {
         shows: "one more",
         status: 7,
         err: b"input too long\n",
         ..CHECK
     };
-    check_input(&rt, rt.alloc(), &longer, spaces(rt.alloc(), 67_108_865)?)?;
+    check_input(
+        &rt,
+        rt.alloc(),
+        &longer,
+        spaces(rt.alloc(), 67_108_865)?,
+        b"",
+    )?;
     Ok(())
 }

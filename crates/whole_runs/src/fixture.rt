@@ -18,7 +18,7 @@ pub const USAGE: &[u8] = b"usage: pnmlstruct TASK [--rows N] [--sets N], or pnml
 #[derive(Drop)]
 pub struct Row<'a> {
     pub shows: &'static str,
-    pub words: &'a [&'a str],
+    pub words: &'static [&'static str],
     /// The input, in parts that stand one behind the other.
     pub input: &'a [&'a [u8]],
     /// How the source cuts the input, and which of its reads fail.
@@ -30,7 +30,7 @@ pub struct Row<'a> {
     /// Which writes of the sink for the fault line fail.
     pub failing_lines: &'static [u64],
     pub status: u8,
-    pub out: &'a [u8],
+    pub out: &'static [u8],
     pub err: &'static [u8],
 }
 
@@ -75,15 +75,16 @@ pub fn spaces(alloc: Global, count: usize) -> Result<Vec<u8>, NoMemory> {
 
 /// Runs a row, and compares what it leaves.
 pub fn check_row(rt: &impl Abort, alloc: Global, row: &Row<'_>) -> Result<(), NoMemory> {
-    check_input(rt, alloc, row, joined(alloc, row.input)?)
+    check_input(rt, alloc, row, joined(alloc, row.input)?, row.out)
 }
 
-/// Runs a row on an input of its own.
+/// Runs a row on an input and with an output of its own.
 pub fn check_input(
     rt: &impl Abort,
     alloc: Global,
     row: &Row<'_>,
     input: Vec<u8>,
+    wanted: &[u8],
 ) -> Result<(), NoMemory> {
     let words = words(alloc, row.words)?;
     let mut source = MemorySource::new(
@@ -105,7 +106,7 @@ pub fn check_input(
     )?;
     let status = run(alloc, &words, &mut source, &mut out, &mut err);
     assert_eq!(rt; status, row.status, "{}", row.shows);
-    assert_eq!(rt; out.bytes(), row.out, "{}", row.shows);
+    assert_eq!(rt; out.bytes(), wanted, "{}", row.shows);
     assert_eq!(rt; err.bytes(), row.err, "{}", row.shows);
     Ok(())
 }
