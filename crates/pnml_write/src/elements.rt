@@ -5,6 +5,12 @@ ghost use Rattle.pnml_write.specs.Elements.{behind_attributes};
 use crate::markup::Markup;
 use net_values::{NoMemory, Text};
 
+/// The initial marking that isn't written.
+pub(crate) const USUAL_MARKING: u64 = 0;
+
+/// The weight that isn't written.
+pub(crate) const USUAL_WEIGHT: u64 = 1;
+
 impl Markup {
     /// Appends an attribute: what opens it, up to its first quote, its value and the other quote.
     pub(crate) fn push_attribute(&mut self, opening: &str, value: &Text) -> Result<(), NoMemory>
@@ -41,7 +47,7 @@ impl Markup {
     pub(crate) fn push_marking(&mut self, tokens: u64) -> Result<(), NoMemory>
         ensures { OnOk result (self.new ≡ self.old ++ marking_text tokens) }
     {
-        if tokens == 0 {
+        if tokens == USUAL_MARKING {
             return Ok(());
         }
         self.push("<initialMarking><text>")?;
@@ -53,7 +59,7 @@ impl Markup {
     pub(crate) fn push_weight(&mut self, weight: u64) -> Result<(), NoMemory>
         ensures { OnOk result (self.new ≡ self.old ++ weight_text weight) }
     {
-        if weight == 1 {
+        if weight == USUAL_WEIGHT {
             return Ok(());
         }
         self.push("<inscription><text>")?;
