@@ -14,7 +14,8 @@ pub(crate) const USUAL_WEIGHT: u64 = 1;
 impl Markup {
     /// Appends an attribute: what opens it, up to its first quote, its value and the other quote.
     pub(crate) fn push_attribute(&mut self, opening: &str, value: &Text) -> Result<(), NoMemory>
-        ensures { OnOk result (self.new ≡ self.old ++ (opening.now ++ escaped value.now ++ 34 ∷ [])) }
+        ensures { OnOk result
+            (self.new ≡ self.old ++ (opening.now ++ escaped value.now ++ 34 ∷ [])) }
     {
         self.push(opening)?;
         self.push_value(value.as_str())?;
@@ -67,9 +68,10 @@ impl Markup {
         self.push("</text></inscription>")
     }
 
-    /// Appends what stands behind the attributes of an element that has a name or no children.
+    /// Appends what stands behind the attributes of an element whose only child may be a name.
     pub(crate) fn push_named_rest(&mut self, name: &Option<Text>, end: &str) -> Result<(), NoMemory>
-        ensures { OnOk result (self.new ≡ self.old ++ behind_attributes (name_text name.now) end.now) }
+        ensures { OnOk result
+            (self.new ≡ self.old ++ behind_attributes (name_text name.now) end.now) }
     {
         if name.is_none() {
             return self.push("/>");

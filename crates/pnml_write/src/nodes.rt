@@ -91,8 +91,8 @@ impl Markup {
 
     /// Appends a page without items.
     pub(crate) fn push_empty_page(&mut self, page: &PageNode) -> Result<(), NoMemory>
-        ensures { OnOk result (self.new ≡
-            self.old ++ element (codes "page") (id_attribute page.now.id) (name_text page.now.name)) }
+        ensures { let name = name_text page.now.name in
+            OnOk result (self.new ≡ self.old ++ element (codes "page") (id_attribute page.now.id) name) }
     {
         self.push_attribute("<page id=\"", &page.id)?;
         self.push_named_rest(&page.name, "</page>")

@@ -1,3 +1,4 @@
+-- With the usual weight the name alone decides whether there are children; with another there are some.
 use Rattle.std.proofs.Common.{◌++◌, [], sym, append-nil, arith}
 use Rattle.std.specs.Prelude.{codes}
 use Rattle.net_values.specs.Canon.{name_text, weight_text}

@@ -1,3 +1,4 @@
+-- Without a marking the name alone decides whether there are children; with one there are some.
 use Rattle.std.proofs.Common.{◌++◌, [], sym, append-nil, arith}
 use Rattle.std.specs.Prelude.{codes}
 use Rattle.net_values.specs.Canon.{name_text, marking_text}

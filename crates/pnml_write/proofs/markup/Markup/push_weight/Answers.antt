@@ -1,3 +1,4 @@
+-- A usual weight has no label; any other has one with its decimal text, which is never empty.
 use Rattle.std.proofs.Common.{append-nil, sym, ◌++◌}
 use Rattle.std.specs.Prelude.{codes, decimal}
 use Rattle.net_values.specs.Canon.{weight_text}
