@@ -1,7 +1,7 @@
 -- An element with children is a start tag, the children and an end tag, and each label has a child, its
 -- `text`. What remains is to regroup.
-use Rattle.std.proofs.Common.{◌≡◌, ◌≢◌, ℕ, ◌<◌, ◌^◌, length, arith, List, [], ◌∷◌, ◌++◌, refl, ap, ◌∙◌, append_assoc, append-nil, Result, Ok, Err, sym, Bool, true, false, Option, Some, None}
-use Rattle.std.specs.Prelude.{codes, decimal, nat_eq, OnOk, is_some}
+use Rattle.std.proofs.Common.{◌≡◌, ◌≢◌, ℕ, ◌<◌, ◌^◌, length, arith, List, [], ◌∷◌, ◌++◌, refl, ap, ◌∙◌, append-nil, sym, Bool, true, false, Option, Some, None}
+use Rattle.std.specs.Prelude.{codes, decimal, nat_eq, is_some}
 use Rattle.std.proofs.lemmas.Fmt.{decimal_nonempty}
 use Rattle.std.proofs.lemmas.Bool.{ne_eqb, eq-eqb, both_ways, false≢true, eqb-true}
 use Rattle.std.proofs.lemmas.List.{nil_from_length}

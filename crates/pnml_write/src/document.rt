@@ -15,8 +15,8 @@ const HEAD: &str =
 /// The type of a net, a place/transition net, as an attribute (ISO/IEC 15909-2).
 const NET_TYPE: &str = " type=\"http://www.pnml.org/version-2009/grammar/ptnet\"";
 
-/// The canonical text of a document: one line, without white space between elements, that ends with a line
-/// feed.
+/// The canonical text of a document: one line, without white space between elements, that ends with a
+/// line feed. It can be longer than the bytes that the document was read from.
 pub fn canonical(alloc: Global, document: &Document) -> Result<Text, NoMemory>
     ensures { IfOk result (λ text. text ≡ canon document.now) }
 {

@@ -5,10 +5,17 @@ ghost use Rattle.pnml_write.specs.Elements.{behind_attributes};
 use crate::markup::Markup;
 use net_values::{NoMemory, Text};
 
+/// The initial marking that isn't written.
+pub(crate) const USUAL_MARKING: u64 = 0;
+
+/// The weight that isn't written.
+pub(crate) const USUAL_WEIGHT: u64 = 1;
+
 impl Markup {
     /// Appends an attribute: what opens it, up to its first quote, its value and the other quote.
     pub(crate) fn push_attribute(&mut self, opening: &str, value: &Text) -> Result<(), NoMemory>
-        ensures { OnOk result (self.new ≡ self.old ++ (opening.now ++ escaped value.now ++ 34 ∷ [])) }
+        ensures { OnOk result
+            (self.new ≡ self.old ++ (opening.now ++ escaped value.now ++ 34 ∷ [])) }
     {
         self.push(opening)?;
         self.push_value(value.as_str())?;
@@ -41,7 +48,7 @@ impl Markup {
     pub(crate) fn push_marking(&mut self, tokens: u64) -> Result<(), NoMemory>
         ensures { OnOk result (self.new ≡ self.old ++ marking_text tokens) }
     {
-        if tokens == 0 {
+        if tokens == USUAL_MARKING {
             return Ok(());
         }
         self.push("<initialMarking><text>")?;
@@ -53,7 +60,7 @@ impl Markup {
     pub(crate) fn push_weight(&mut self, weight: u64) -> Result<(), NoMemory>
         ensures { OnOk result (self.new ≡ self.old ++ weight_text weight) }
     {
-        if weight == 1 {
+        if weight == USUAL_WEIGHT {
             return Ok(());
         }
         self.push("<inscription><text>")?;
@@ -61,9 +68,10 @@ impl Markup {
         self.push("</text></inscription>")
     }
 
-    /// Appends what stands behind the attributes of an element that has a name or no children.
+    /// Appends what stands behind the attributes of an element whose only child may be a name.
     pub(crate) fn push_named_rest(&mut self, name: &Option<Text>, end: &str) -> Result<(), NoMemory>
-        ensures { OnOk result (self.new ≡ self.old ++ behind_attributes (name_text name.now) end.now) }
+        ensures { OnOk result
+            (self.new ≡ self.old ++ behind_attributes (name_text name.now) end.now) }
     {
         if name.is_none() {
             return self.push("/>");

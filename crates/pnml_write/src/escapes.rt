@@ -34,10 +34,11 @@ fn first_escaped(value: &str) -> Option<usize>
     value.as_bytes().iter().position(|byte| is_escaped(*byte))
 }
 
-/// A value up to its first byte that is written as a reference, that reference, and what stands behind the
-/// byte.
+/// A value up to its first byte that is written as a reference, that reference, and what stands behind
+/// the byte.
 pub(crate) fn split_at_escape(value: &str) -> Option<(&str, &'static str, &str)>
-    ensures some { IfSome result (λ parts. escaped value.now ≡ parts.0.now ++ parts.1.now ++ escaped parts.2.now) }
+    ensures some { IfSome result (λ parts.
+        escaped value.now ≡ parts.0.now ++ parts.1.now ++ escaped parts.2.now) }
     ensures shorter { IfSome result (λ parts. length parts.2.now < length value.now) }
     ensures none { IfNone result (escaped value.now ≡ value.now) }
 {

@@ -7,7 +7,8 @@ use net_values::{Item, NoMemory, PageNode};
 
 /// A page without items at the front, and the items behind it.
 fn empty_page(items: &[Item]) -> Option<(&PageNode, &[Item])>
-    ensures some { IfSome result (λ found. items.now ≡ Item.Page found.0.now ∷ Item.PageEnd ∷ found.1.now) }
+    ensures some { IfSome result (λ found.
+        items.now ≡ Item.Page found.0.now ∷ Item.PageEnd ∷ found.1.now) }
     ensures none { IfNone result (BeginsWithoutEmptyPage items.now) }
 {
     match items {
@@ -32,11 +33,12 @@ impl Markup {
         }
     }
 
-    /// Appends the item at the front, a page without items together with its end, and gives what stands
-    /// behind.
+    /// Appends the item at the front, a page without items together with its end, and gives what
+    /// stands behind.
     fn push_first<'a>(&mut self, items: &'a [Item]) -> Result<&'a [Item], NoMemory>
         requires { 0 < length items.now }
-        ensures text { IfOk result (λ rest. self.new ++ items_text rest.now ≡ self.old ++ items_text items.now) }
+        ensures text { IfOk result (λ rest.
+            self.new ++ items_text rest.now ≡ self.old ++ items_text items.now) }
         ensures shorter { IfOk result (λ rest. length rest.now < length items.now) }
     {
         match empty_page(items) {

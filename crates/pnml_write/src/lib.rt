@@ -1,5 +1,5 @@
-//! Canonical text: the one spelling of PNML (ISO/IEC 15909-2) that a document is written in. What is
-//! written is proved to be exactly that spelling, for every document.
+//! Canonical text: the one spelling of PNML (ISO/IEC 15909-2) that a document is written in. What is written
+//! is proved to be exactly that spelling, for every document.
 #![tactic(auto)]
 
 mod document;

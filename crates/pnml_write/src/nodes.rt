@@ -3,6 +3,7 @@ ghost use Rattle.net_values.specs.declared.document.Item.TheVariants.{Page, Plac
 ghost use Rattle.net_values.specs.Canon.{escaped, element, id_attribute, name_text, marking_text, weight_text, item_text};
 ghost use Rattle.pnml_write.specs.Elements.{behind_attributes};
 
+use crate::elements::{USUAL_MARKING, USUAL_WEIGHT};
 use crate::markup::Markup;
 use net_values::{ArcNode, NoMemory, PageNode, PlaceNode, RefNode, TransitionNode};
 
@@ -20,7 +21,7 @@ impl Markup {
         ensures { let labels = name_text place.now.name ++ marking_text place.now.initial in
             OnOk result (self.new ≡ self.old ++ behind_attributes labels (codes "</place>")) }
     {
-        if place.initial == 0 {
+        if place.initial == USUAL_MARKING {
             return self.push_named_rest(&place.name, "</place>");
         }
         self.push(">")?;
@@ -70,7 +71,7 @@ impl Markup {
         ensures { let labels = name_text arc.now.name ++ weight_text arc.now.weight in
             OnOk result (self.new ≡ self.old ++ behind_attributes labels (codes "</arc>")) }
     {
-        if arc.weight == 1 {
+        if arc.weight == USUAL_WEIGHT {
             return self.push_named_rest(&arc.name, "</arc>");
         }
         self.push(">")?;
@@ -90,8 +91,8 @@ impl Markup {
 
     /// Appends a page without items.
     pub(crate) fn push_empty_page(&mut self, page: &PageNode) -> Result<(), NoMemory>
-        ensures { OnOk result (self.new ≡
-            self.old ++ element (codes "page") (id_attribute page.now.id) (name_text page.now.name)) }
+        ensures { let name = name_text page.now.name in
+            OnOk result (self.new ≡ self.old ++ element (codes "page") (id_attribute page.now.id) name) }
     {
         self.push_attribute("<page id=\"", &page.id)?;
         self.push_named_rest(&page.name, "</page>")

@@ -1,3 +1,4 @@
+-- The head, the net and the last end tag with its line feed are the whole text.
 use Rattle.std.proofs.Common.{◌∙◌}
 use Rattle.std.specs.Prelude.{codes}
 use Rattle.net_values.specs.Canon.{net_text}

@@ -1,3 +1,4 @@
+-- The attribute and the rest behind it are the whole element.
 use Rattle.std.specs.Prelude.{codes}
 use Rattle.net_values.specs.Canon.{name_text, element, id_attribute}
 use Rattle.pnml_write.specs.Elements.{behind_attributes}

@@ -1,3 +1,4 @@
+-- The end of a page is its end tag; the other items are those of the functions that are called.
 use Rattle.std.proofs.Common.{[], sym, append-nil, ap, ◌∙◌}
 use Rattle.std.specs.Prelude.{codes}
 use Rattle.net_values.specs.Canon.{item_text}

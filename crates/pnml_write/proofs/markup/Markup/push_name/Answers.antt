@@ -1,3 +1,4 @@
+-- An empty name is written as an empty `text`, any other as a `text` with its value.
 use Rattle.std.proofs.Common.{append-nil, sym, ◌++◌, ap, ◌∙◌, List, ℕ, []}
 use Rattle.std.specs.Prelude.{codes}
 use Rattle.net_values.specs.Canon.{label, escaped}

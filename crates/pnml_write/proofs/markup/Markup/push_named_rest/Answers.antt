@@ -1,3 +1,4 @@
+-- A name has a text, so an element with a name has children.
 use Rattle.std.proofs.Common.{◌++◌, sym}
 use Rattle.std.specs.Prelude.{codes}
 use Rattle.net_values.specs.Canon.{name_text}

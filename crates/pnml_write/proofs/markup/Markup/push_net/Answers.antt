@@ -1,3 +1,4 @@
+-- The attributes and the rest behind them are the text of the net.
 use Rattle.std.proofs.Common.{◌++◌}
 use Rattle.std.specs.Prelude.{codes}
 use Rattle.net_values.specs.Canon.{name_text, items_text, net_text}

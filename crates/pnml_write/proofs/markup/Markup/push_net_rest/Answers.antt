@@ -1,3 +1,4 @@
+-- Items have a text, so a net with items has children.
 use Rattle.std.proofs.Common.{◌++◌, ◌∙◌, ap}
 use Rattle.std.specs.Prelude.{codes}
 use Rattle.net_values.specs.Canon.{name_text, items_text}

@@ -1,3 +1,4 @@
+-- The attribute, the end of the start tag and the name are the text of the start.
 use Rattle.std.proofs.Common.{◌++◌}
 use Rattle.std.specs.Prelude.{codes}
 use Rattle.net_values.specs.declared.document.Item.TheVariants.{Page}

@@ -1,3 +1,4 @@
+-- The attribute and the rest behind it are the text of the place.
 use Rattle.std.proofs.Common.{◌++◌}
 use Rattle.std.specs.Prelude.{codes}
 use Rattle.net_values.specs.declared.document.Item.TheVariants.{Place}

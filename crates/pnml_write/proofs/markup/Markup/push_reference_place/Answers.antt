@@ -1,3 +1,4 @@
+-- The two attributes and the rest behind them are the text of the reference place.
 use Rattle.std.proofs.Common.{◌++◌}
 use Rattle.std.specs.Prelude.{codes}
 use Rattle.net_values.specs.declared.document.Item.TheVariants.{RefPlace}

@@ -1,3 +1,4 @@
+-- The attribute and the rest behind it are the text of the transition.
 use Rattle.std.specs.Prelude.{codes}
 use Rattle.net_values.specs.declared.document.Item.TheVariants.{Transition}
 use Rattle.net_values.specs.Canon.{name_text, item_text}
