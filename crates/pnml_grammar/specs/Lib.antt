@@ -7,3 +7,6 @@ pub mod Attributes
 pub mod Declarations
 pub mod Tags
 pub mod Tokens
+pub mod Runs
+pub mod Resolving
+pub mod Reading

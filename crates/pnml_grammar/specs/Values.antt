@@ -1,6 +1,6 @@
 -- Values: text whose line ends are one line feed each and whose references are the characters that they
 -- stand for.
-use Rattle.std.specs.Prelude.{◌≡◌, ◌≢◌, ℕ, Bool, true, false, ◌==◌, ◌||◌, ◌&&◌, if◌then◌else◌, List, [], ◌∷◌, ◌++◌, map, encode_utf8}
+use Rattle.std.specs.Prelude.{◌≢◌, ℕ, Bool, true, false, ◌==◌, ◌||◌, ◌&&◌, if◌then◌else◌, List, [], ◌∷◌, ◌++◌, map, encode_utf8}
 use Rattle.pnml_grammar.specs.References.{IsReference}
 
 -- behind a carriage return, or not: CR LF and a CR alone become LF
@@ -24,7 +24,7 @@ pub data Resolves : List ℕ → List ℕ → Type 0 where
   nothing : Resolves [] []
   byte : (b : ℕ) (bytes value : List ℕ) → b ≢ 38 → Resolves bytes value → Resolves (b ∷ bytes) (b ∷ value)
   reference : (body : List ℕ) (character : ℕ) (bytes value : List ℕ) → IsReference body character → Resolves bytes value
-    → Resolves (38 ∷ (body ++ 59 ∷ bytes)) (encode_utf8 character ++ value)
+      → Resolves (38 ∷ (body ++ 59 ∷ bytes)) (encode_utf8 character ++ value)
 
 -- the value of text between markup, and of an attribute
 abbrev pub IsTextValue : List ℕ → List ℕ → Type 0
