@@ -39,7 +39,7 @@ markup_name (b ∷ bs) t is =
     let p = name_begins b is.0 in
     markup_made (b ∷ (bs ++ t)) (rw p.0 refl) (rw p.0 refl) (rw p.1 refl) (rw p.2 refl)
 
-tag_made : (bytes name t0 : List ℕ) (settings : List Setting) (t1 text : List ℕ) (attributes : List Attribute) (t2 : List ℕ) (found : Option (Token × List ℕ)) → name_at bytes ≡ Some (name, t0) → text_of name ≡ Some text
+pub tag_made : (bytes name t0 : List ℕ) (settings : List Setting) (t1 text : List ℕ) (attributes : List Attribute) (t2 : List ℕ) (found : Option (Token × List ℕ)) → name_at bytes ≡ Some (name, t0) → text_of name ≡ Some text
     → all_settings_at t0 ≡ (settings, t1) → distinct_attributes_of settings ≡ Some attributes → behind is_space t1 ≡ t2 → tag_closed text attributes t2 ≡ found → tag_at bytes ≡ found
 unfolding tag_at
 tag_made bytes name t0 settings t1 text attributes t2 found e0 e1 e2 e3 e4 e5 = rw (e0, e1, e2, e3, e4) e5

@@ -112,7 +112,7 @@ markup_found bytes token rest e =
     (λ t is way. subst (λ (u : List ℕ). ShapeFound (60 ∷ u) token rest) (sym (past_found 47 bytes t is)) (end_found t token rest way))
     (tag_found bytes token rest)))) e
 
-shape_found : (bytes : List ℕ) (token : Token) (rest : List ℕ) → shape_at bytes ≡ Some (token, rest) → ShapeFound bytes token rest
+pub shape_found : (bytes : List ℕ) (token : Token) (rest : List ℕ) → shape_at bytes ≡ Some (token, rest) → ShapeFound bytes token rest
 unfolding shape_at
 shape_found [] token rest e = absurd cc
 shape_found (b ∷ bs) token rest e =
