@@ -22,3 +22,6 @@ mod text;
 mod value;
 
 pub use step::{Step, TokenFault, token_at};
+
+#[cfg(test)]
+mod tests;
