@@ -60,8 +60,7 @@ abbrev mutual
       if byte == 59 then referenced body >>= (λ character. with_front (encode_utf8 character) (resolved bytes))
       else (if is_reference_byte byte then resolved_behind (body ++ byte ∷ []) bytes else None)
 
--- where text stands: its references are resolved outside CDATA sections, its tabs and line ends are spaces in
--- attributes
+-- the text with its line ends resolved, and with spaces for tabs and line feeds where it stands in an attribute
 abbrev pub literal : Bool → List ℕ → List ℕ
 literal spaces bytes = if spaces then map spaced (lines_ended bytes) else lines_ended bytes
 
