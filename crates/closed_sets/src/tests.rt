@@ -1,5 +1,3 @@
-ghost use Rattle.std.specs.Prelude.{◌≡◌, IfOk, length};
-
 use super::*;
 use net_values::{FlatNet, NoMemory, PlaceSet, Text};
 use std::alloc::Global;
@@ -47,9 +45,12 @@ fn net_with(
 }
 
 /// The set of the places that the row names, of this size.
-fn set_of(rt: &impl Abort, alloc: Global, size: usize, row: &[usize]) -> Result<PlaceSet, NoMemory>
-    ensures { IfOk result (λ set. length set ≡ size) }
-{
+fn set_of(
+    rt: &impl Abort,
+    alloc: Global,
+    size: usize,
+    row: &[usize],
+) -> Result<PlaceSet, NoMemory> {
     assert!(rt; size <= 8);
     let mut set = PlaceSet::new(alloc, size)?;
     for p in row {
