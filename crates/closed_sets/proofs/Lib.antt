@@ -1,0 +1,4 @@
+pub mod Below
+pub mod Firing
+pub mod Passes
+pub mod SmallerSiphons

@@ -1,0 +1,4 @@
+-- The definitions of the search for siphons.
+pub mod Met
+pub mod Classes
+pub mod Faults
