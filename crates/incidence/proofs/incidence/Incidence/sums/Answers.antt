@@ -1,0 +1,21 @@
+use Rattle.std.proofs.Common.{◌≡◌, subst, ℕ, ℤ, pos, to_z, List, ◌*◌, ◌^◌, ◌<◌, slice_index}
+use Rattle.std.specs.Int.{w128}
+use Rattle.incidence.specs.Matrix.{AreNarrow, gain_sum, loss_sum}
+use Rattle.incidence.specs.Sums.{sum_below}
+use Rattle.incidence.specs.Tables.{Tables, matrix_of, at}
+use Rattle.incidence.proofs.SumLemmas.{sums_given}
+use Rattle.incidence.proofs.incidence.Incidence.sums.Goals as goal
+
+pub returns : goal.returns
+returns c =
+    let inside = c.self.inside in
+    let tables : Tables = record { gains = inside.gains; losses = inside.losses } in
+    let m = matrix_of tables in
+    let j = c.args.column in
+    let y = slice_index c.args.y.now in
+    let Gain : List ℕ → Type 0 = λ z. (gain_sum m j (slice_index z) < 2 ^ 127) × (c.in_ok-gain.gain ≡ gain_sum m j (slice_index z)) in
+    let Loss : List ℕ → Type 0 = λ z. (sum_below inside.losses.height (λ i. slice_index z i * at inside.losses i j) < 2 ^ 127) × (c.in_ok-loss.loss ≡ sum_below inside.losses.height (λ i. slice_index z i * at inside.losses i j)) in
+    let High : ℕ → Type 0 = λ height. (sum_below height (λ i. y i * at inside.losses i j) < 2 ^ 127) × (c.in_ok-loss.loss ≡ sum_below height (λ i. y i * at inside.losses i j)) in
+    let Both : Tables → Type 0 = λ t. AreNarrow (matrix_of t) j y × (◌≡◌ {A = ℤ × ℤ} (to_z w128 c.in_ok-gain.gain, to_z w128 c.in_ok-loss.loss) (pos (gain_sum (matrix_of t) j y), pos (loss_sum (matrix_of t) j y))) in
+    subst Both c.self.view_is
+    (sums_given m j y _ _ (subst Gain c.as_slice.ensures.value c.in_ok-gain.ensures) (subst High c.self.invariant.height (subst Loss c.as_slice-2.ensures.value c.in_ok-loss.ensures)))

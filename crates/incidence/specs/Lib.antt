@@ -1,0 +1,5 @@
+pub mod Sums
+pub mod Matrix
+pub mod Semiflow
+pub mod Tables
+pub mod Excess

@@ -1,0 +1,47 @@
+-- A matrix of whole numbers, as two matrices of natural numbers: `gain i j` is the entry where it is
+-- positive, else 0, and `loss i j` is the negated entry where it is negative, else 0. Rows and columns are
+-- numbers below the two counts; what stands past them doesn't count. A vector is a function of the row.
+use Rattle.std.specs.Prelude.{ℕ, ℤ, pos, ◌*◌, ◌-◌, ◌<◌, ◌^◌, ◌-ℤ◌}
+use Rattle.net_values.specs.Net.{Net}
+use Rattle.incidence.specs.Sums.{sum_below}
+
+pub record Matrix : Type 0 where
+  pub rows : ℕ
+  pub columns : ℕ
+  pub gain : ℕ → ℕ → ℕ
+  pub loss : ℕ → ℕ → ℕ
+
+-- the entry as a whole number
+abbrev pub entry_of : Matrix → ℕ → ℕ → ℤ
+entry_of m i j = pos (m.gain i j) -ℤ pos (m.loss i j)
+
+-- rows and columns exchanged
+abbrev pub transposed : Matrix → Matrix
+transposed m = record {
+  rows = m.columns;
+  columns = m.rows;
+  gain = λ i j. m.gain j i;
+  loss = λ i j. m.loss j i;
+}
+
+-- the incidence matrix of a net: a row per place, a column per transition, and the entries `Post - Pre`
+-- (Murata, "Petri nets: properties, analysis and applications", section IV-B)
+abbrev pub incidence_of : Net → Matrix
+incidence_of net = record {
+  rows = net.places;
+  columns = net.transitions;
+  gain = λ p t. net.post p t - net.pre p t;
+  loss = λ p t. net.pre p t - net.post p t;
+}
+
+-- the two sums of a vector at a column: over the positive entries, and over the negated negative ones
+abbrev pub gain_sum : Matrix → ℕ → (ℕ → ℕ) → ℕ
+gain_sum m j y = sum_below m.rows (λ i. y i * m.gain i j)
+
+abbrev pub loss_sum : Matrix → ℕ → (ℕ → ℕ) → ℕ
+loss_sum m j y = sum_below m.rows (λ i. y i * m.loss i j)
+
+-- neither of the two sums exceeds 2^127 - 1
+pub record AreNarrow (m : Matrix) (j : ℕ) (y : ℕ → ℕ) : Type 0 where
+  pub gain : gain_sum m j y < 2 ^ 127
+  pub loss : loss_sum m j y < 2 ^ 127

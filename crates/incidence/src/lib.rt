@@ -1,0 +1,15 @@
+//! The incidence matrix of a net and its transpose, with exact sums of a vector at a column. Semiflows and
+//! those of minimal support are defined here, over any matrix of whole numbers and any set of its columns.
+#![tactic(auto)]
+
+mod flat_sums;
+mod incidence;
+mod side;
+mod sparse;
+#[cfg(test)]
+mod tests;
+mod wide_sum;
+
+pub use flat_sums::net_sums;
+pub use incidence::Incidence;
+pub use wide_sum::WideSum;

@@ -1,0 +1,17 @@
+ghost use Rattle.std.specs.Prelude.{◌+◌, ◌*◌, ◌<◌, ◌^◌, OkIff};
+
+/// A sum exceeds 2^127 - 1.
+#[derive(Clone, Copy, Debug, PartialEq, Eq)]
+pub struct WideSum;
+
+/// The total and the product of the two factors together.
+pub(crate) fn add_product(total: u128, factor: u128, amount: u128) -> Result<u128, WideSum>
+    ensures { OkIff result (total + factor * amount < 2 ^ 127) (total + factor * amount) }
+{
+    let product = factor.checked_mul(amount).ok_or(WideSum)?;
+    let sum = total.checked_add(product).ok_or(WideSum)?;
+    if sum > i128::MAX as u128 {
+        return Err(WideSum);
+    }
+    Ok(sum)
+}

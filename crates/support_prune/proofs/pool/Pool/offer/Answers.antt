@@ -1,0 +1,26 @@
+use Rattle.std.proofs.Common.{◌≡◌, sym, ap, ◌∙◌, subst, ℕ, List, true, false, ◌∷◌, [], ◌++◌, length}
+use Rattle.std.specs.List.{list_any}
+use Rattle.support_prune.specs.Supports.{is_within}
+use Rattle.support_prune.specs.Pools.{IsPool}
+use Rattle.support_prune.proofs.Offers.{offered_found, offered_new, sieve_of_push}
+use Rattle.support_prune.proofs.pool.Pool.offer.Goals as goal
+
+pub returns-then-has_within-clause-ok : goal.returns-then-has_within-clause-ok
+returns-then-has_within-clause-ok c =
+    let old = c.args.self.now in
+    let test : list_any (λ other. is_within other c.args.row) old ≡ true =
+    sym (ap (list_any (λ other. is_within other c.args.row)) (c.as_slice.ensures.value ∙ c.self.view_is)) ∙ sym c.has_within.ensures ∙ c.if-has_within.true
+    in
+    offered_found old c.args.row (subst IsPool c.self.view_is c.self.invariant) c.requires test
+
+pub returns-clause-ok : goal.returns-clause-ok
+returns-clause-ok c =
+    let old = c.args.self.now in
+    let test : list_any (λ other. is_within other c.args.row) old ≡ false =
+    sym (ap (list_any (λ other. is_within other c.args.row)) (c.as_slice.ensures.value ∙ c.self.view_is)) ∙ sym c.has_within.ensures ∙ c.if-has_within.false
+    in
+    offered_new old c.drop_wider.new.rows c.args.row (subst IsPool c.self.view_is c.self.invariant) c.requires test
+    (sieve_of_push old c.args.row c.push.new.self c.drop_wider.new.rows _ (c.in_ok-push.ensures.ok ∙ ap (λ (rows : List (List ℕ)). rows ++ c.args.row ∷ []) c.self.view_is) (c.len-before.ensures ∙ ap length c.self.view_is) c.drop_wider.ensures)
+
+pub invariant_of-self-2 : goal.invariant_of-self-2
+invariant_of-self-2 c = (returns-clause-ok c).pool
