@@ -56,8 +56,7 @@ pub fn decode(alloc: Global, bytes: &[u8]) -> Result<Document, DocFault>
 /// The law that two plain documents with one canonical text are one. It does nothing.
 pub fn canonical_text_tells_documents_apart()
     ensures { (first second : Tree) → Plain first → Plain second → canon first ≡ canon second → first ≡ second }
-{
-}
+{}
 
 /// The law that bytes are those of at most one plain document. It does nothing.
 pub fn one_document()
