@@ -5,6 +5,8 @@ mod branch;
 mod fault;
 mod list;
 mod search;
+#[cfg(test)]
+mod tests;
 
 pub use fault::SetFault;
 pub use list::minimal_siphons;
