@@ -7,3 +7,4 @@ pub mod Keeping
 pub mod MinimalGrown
 pub mod Sorting
 pub mod Covers
+pub mod LiveClasses
