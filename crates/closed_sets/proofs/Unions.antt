@@ -1,10 +1,10 @@
 -- The union of two siphons is a siphon: a transition with an output place in one of them has an input place
 -- in that one. So a set has a greatest siphon in it, the union of all.
-use Rattle.std.proofs.Common.{◌≡◌, refl, ℕ, ◌||◌, ◌⊎◌, Bool, true, false, IsTrue, inl, inr}
+use Rattle.std.proofs.Common.{refl, ℕ, ◌||◌, ◌⊎◌, Bool, true, false, IsTrue, inl, inr}
 use Rattle.std.proofs.lemmas.Bool.{false≢true}
 use Rattle.net_values.specs.Net.{Net}
 use Rattle.closed_sets.specs.ClosedSets.{IsSiphon}
-use Rattle.closed_sets.proofs.Below.{cases_bool, pair_at, pair_from}
+use Rattle.closed_sets.proofs.Below.{pair_at, pair_from}
 
 of_either : (a b : Bool) → IsTrue (a || b) → IsTrue a ⊎ IsTrue b
 of_either true b some = inl refl

@@ -1,17 +1,15 @@
 -- Every nonempty siphon contains a listed one. If it contains none, then no smaller nonempty siphon in it
 -- does; so by induction on the number of places there is no smaller one, and it is minimal and listed.
-use Rattle.std.proofs.Common.{◌≡◌, ◌↔◌, refl, sym, ap, ◌∙◌, subst, ℕ, zero, suc, ◌+◌, ◌<◌, ◌≤◌, ◌&&◌, List, [], ◌∷◌, Bool, true, false, IsTrue, ltb, not, length, get_or, Any, Contains, inl, inr, arith}
+use Rattle.std.proofs.Common.{◌≡◌, refl, sym, ap, ◌∙◌, ℕ, zero, suc, ◌<◌, ◌&&◌, List, [], ◌∷◌, Bool, IsTrue, not, length, Contains, inl, inr, arith}
 use Rattle.std.specs.List.{list_any}
-use Rattle.std.proofs.lemmas.Bool.{cases_lt, cases_eq, true≢false, false≢true}
-use Rattle.std.proofs.lemmas.List.{get_or_default}
 use Rattle.std.proofs.lemmas.List.Folds.{Any-from_list_any, list_any_at}
 use Rattle.std.specs.Cmp.Lexicographic.{slice_cmp}
 use Rattle.std.specs.Ordering.{bool_cmp}
 use Rattle.net_values.specs.Net.{Net}
 use Rattle.net_values.specs.PlaceSets.{has}
 use Rattle.net_values.specs.TheList.{IsTheList}
-use Rattle.closed_sets.specs.ClosedSets.{any_below, has_input_in, has_output_in, IsSiphon, IsWithin, IsNonempty, IsMinimalSiphon}
-use Rattle.closed_sets.proofs.Below.{cases_bool, apart, both, both_left, both_right, not_true, not_false, any_at, any_from, none_at, pair_at, pair_from}
+use Rattle.closed_sets.specs.ClosedSets.{any_below, IsSiphon, IsWithin, IsNonempty, IsMinimalSiphon}
+use Rattle.closed_sets.proofs.Below.{cases_bool, apart, both, both_left, both_right, not_true, not_false, any_at, any_from, pair_at, pair_from}
 use Rattle.siphon_branch.specs.Met.{IsMinimalSet, CoversSiphons}
 use Rattle.siphon_branch.proofs.MinimalGrown.{outside, outside_lt}
 

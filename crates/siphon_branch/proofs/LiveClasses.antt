@@ -1,13 +1,13 @@
 -- A live class has a siphon that is grown in it: what grows in the greatest siphon that avoids the one set
 -- from the contained set, or from the lowest place of that siphon where the contained set is empty.
-use Rattle.std.proofs.Common.{◌≡◌, refl, sym, subst, ℕ, suc, ◌<◌, ◌==◌, Bool, true, false, IsTrue, not, inl, inr, arith}
+use Rattle.std.proofs.Common.{◌≡◌, refl, sym, subst, ℕ, suc, ◌<◌, Bool, false, IsTrue, not, inl, inr, arith}
 use Rattle.std.proofs.lemmas.Bool.{eq-eqb, eqb-true}
 use Rattle.net_values.specs.Net.{Net}
-use Rattle.closed_sets.specs.ClosedSets.{any_below, IsSiphon, IsWithin, IsNonempty}
-use Rattle.closed_sets.specs.Growth.{IsFirst, only_place, Belongs, IsGrown, IsGrownIn}
+use Rattle.closed_sets.specs.ClosedSets.{any_below, IsWithin}
+use Rattle.closed_sets.specs.Growth.{only_place}
 use Rattle.closed_sets.proofs.Below.{cases_bool, apart, not_false, any_at, any_from}
 use Rattle.siphon_branch.specs.Laws.{LiveClassesHaveGrown}
-use Rattle.siphon_branch.proofs.MinimalGrown.{first_of, outside, GrowsIn, grows_in}
+use Rattle.siphon_branch.proofs.MinimalGrown.{first_of, outside, grows_in}
 
 avoided_not : (net : Net) (avoids U S : ℕ → Bool) → IsWithin net U (λ p. not (avoids p)) → IsWithin net S U → (p : ℕ) → p < net.places → IsTrue (avoids p) → S p ≡ false
 avoided_not net avoids U S outside' within p below avoided =

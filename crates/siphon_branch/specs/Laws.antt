@@ -1,7 +1,7 @@
 -- What the search rests on.
-use Rattle.std.specs.Prelude.{ℕ, Bool, not, List, Contains, length, ◌≤◌}
+use Rattle.std.specs.Prelude.{ℕ, Bool, not}
 use Rattle.net_values.specs.Net.{Net}
-use Rattle.closed_sets.specs.ClosedSets.{IsSiphon, IsWithin, IsNonempty, IsGreatestSiphon, IsMinimalSiphon}
+use Rattle.closed_sets.specs.ClosedSets.{IsWithin, IsNonempty, IsGreatestSiphon, IsMinimalSiphon}
 use Rattle.closed_sets.specs.Growth.{IsGrown, IsGrownIn}
 
 -- a class is live where the greatest siphon that avoids the one set is nonempty and contains the other; such
