@@ -1,5 +1,5 @@
 -- Tests of the numbers below a bound: some number passes, or none does.
-use Rattle.std.proofs.Common.{◌≡◌, refl, sym, ℕ, zero, suc, ◌<◌, Bool, true, false, IsTrue, ◌&&◌, ◌||◌, not, ltb, inl, inr, ◌⊎◌, arith}
+use Rattle.std.proofs.Common.{◌≡◌, refl, sym, ℕ, zero, suc, ◌<◌, Bool, true, false, IsTrue, ◌&&◌, not, ltb, inl, inr, ◌⊎◌, arith}
 use Rattle.std.proofs.lemmas.Bool.{cases_eq, true≢false, false≢true, ltb-true, lt-ltb}
 use Rattle.closed_sets.specs.ClosedSets.{any_below}
 

@@ -2,13 +2,13 @@
 -- output place in it, which it fills. At a dead marking each transition has an input place with fewer
 -- tokens than it takes, which in an ordinary net is empty; so the empty places are a siphon, and no trap in
 -- it is marked.
-use Rattle.std.proofs.Common.{◌≡◌, refl, ℕ, ◌+◌, ◌-◌, ◌<◌, ◌≤◌, ◌==◌, ◌&&◌, List, [], ◌∷◌, Bool, true, false, IsTrue, ltb, eqb, inl, inr, arith}
-use Rattle.std.proofs.lemmas.Bool.{cases_lt, lt-ltb, ltb-true, ltb-false, eq-eqb, eqb-true}
+use Rattle.std.proofs.Common.{◌≡◌, ℕ, ◌<◌, [], ◌∷◌, Bool, ltb, inl, inr, arith}
+use Rattle.std.proofs.lemmas.Bool.{cases_lt, ltb-true, ltb-false, eq-eqb, eqb-true}
 use Rattle.net_values.specs.Net.{Net}
-use Rattle.net_values.specs.TokenGame.{IsEnabled, after, Reach, IsReachable, IsDead}
-use Rattle.closed_sets.specs.ClosedSets.{any_below, has_input_in, has_output_in, IsSiphon, IsTrap, IsWithin, IsNonempty}
-use Rattle.closed_sets.specs.Commoner.{IsMarked, IsOrdinary, MeetsCommoner, empty_places, TrapsStayMarked, DeadEmptiesASiphon, CommonerExcludesDead}
-use Rattle.closed_sets.proofs.Below.{cases_bool, any_at, any_from, none_at, pair_at, pair_from, apart}
+use Rattle.net_values.specs.TokenGame.{IsEnabled, after}
+use Rattle.closed_sets.specs.ClosedSets.{any_below, IsTrap}
+use Rattle.closed_sets.specs.Commoner.{IsMarked, empty_places, TrapsStayMarked, DeadEmptiesASiphon, CommonerExcludesDead}
+use Rattle.closed_sets.proofs.Below.{cases_bool, any_at, any_from, none_at, pair_at, pair_from}
 
 trap_kept : (net : Net) (S : ℕ → Bool) (M : ℕ → ℕ) (t : ℕ) → IsTrap net S → t < net.transitions → IsMarked net M S → IsMarked net (after net M t) S
 trap_kept net S M t trap below marked =

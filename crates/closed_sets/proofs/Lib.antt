@@ -2,3 +2,4 @@ pub mod Below
 pub mod Firing
 pub mod Passes
 pub mod SmallerSiphons
+pub mod Unions

@@ -1,18 +1,17 @@
 -- Taking the output places of an open transition out of a set loses no siphon in the set: a siphon with
 -- such a place would have an input place of the transition, which the set lacks. Each such step takes a
 -- place away; where a whole pass takes none, no transition is open, and the set is a siphon.
-use Rattle.std.proofs.Common.{◌≡◌, refl, sym, ap, ◌∙◌, subst, ℕ, ◌+◌, zero, suc, ◌<◌, ◌≤◌, ◌==◌, ◌&&◌, List, [], ◌∷◌, Bool, true, false, IsTrue, MatchBool, MatchOption, Option, None, Some, is_some, ◌↔◌, All, Any, length, get_or, not, ltb, cond, inl, inr, arith}
-use Rattle.std.specs.List.{list_any, count_by}
+use Rattle.std.proofs.Common.{◌≡◌, refl, sym, ap, ◌∙◌, subst, ℕ, ◌+◌, zero, suc, ◌<◌, ◌≤◌, ◌==◌, ◌&&◌, List, [], ◌∷◌, Bool, true, false, IsTrue, MatchBool, MatchOption, Option, None, Some, is_some, ◌↔◌, length, get_or, not, ltb, cond, inl, inr, arith}
+use Rattle.std.specs.List.{list_any}
 use Rattle.std.proofs.Math.Bool.{and-false}
-use Rattle.std.proofs.lemmas.Bool.{cases_lt, cases_eq, true≢false, false≢true, eq-eqb, eqb-true}
+use Rattle.std.proofs.lemmas.Bool.{cases_eq, true≢false, false≢true, eq-eqb, eqb-true}
 use Rattle.std.proofs.lemmas.List.Sums.{sum_by-cons}
-use Rattle.std.proofs.lemmas.List.{get_or_past, get_or_default}
 use Rattle.std.proofs.lemmas.List.Folds.{Any-from_list_any, list_any-from_Any}
 use Rattle.net_values.specs.declared.column.WeightedPlace.{WeightedPlace}
 use Rattle.net_values.specs.Columns.{Lists}
 use Rattle.net_values.specs.Net.{Net}
 use Rattle.net_values.specs.PlaceSets.{has}
-use Rattle.closed_sets.specs.ClosedSets.{any_below, has_input_in, has_output_in, IsSiphon, IsWithin, IsGreatestSiphon}
+use Rattle.closed_sets.specs.ClosedSets.{any_below, has_input_in, has_output_in, IsSiphon, IsGreatestSiphon}
 use Rattle.closed_sets.specs.Growth.{is_open, IsFirst}
 use Rattle.closed_sets.specs.Passes.{Shrinks, IsFewer, IsSettled, IsSettledAt, members}
 use Rattle.closed_sets.proofs.Below.{cases_bool, apart, both, both_left, both_right, not_true, not_false, pair_at, pair_from}

@@ -1,12 +1,12 @@
 -- A smaller nonempty siphon in a set lacks one of its places, and then lies in the greatest siphon of the
 -- set without that place. So a nonempty siphon is minimal exactly where each of these is empty.
-use Rattle.std.proofs.Common.{◌≡◌, ◌≢◌, ◌↔◌, refl, sym, ap, subst, ◌∙◌, ℕ, ◌<◌, List, Bool, true, false, IsTrue, length, get_or, set, not, inl, inr, arith}
-use Rattle.std.proofs.lemmas.Bool.{cases_lt, cases_eq, true≢false, false≢true}
+use Rattle.std.proofs.Common.{◌≡◌, ◌≢◌, ◌↔◌, sym, subst, ◌∙◌, ℕ, ◌<◌, List, Bool, false, IsTrue, length, set, not, inl, inr, arith}
+use Rattle.std.proofs.lemmas.Bool.{cases_lt, cases_eq}
 use Rattle.std.proofs.lemmas.List.{get_or_past, get_or-set_same, get_or-set_other}
 use Rattle.net_values.specs.Net.{Net}
 use Rattle.net_values.specs.PlaceSets.{has, IsEmpty}
 use Rattle.closed_sets.specs.ClosedSets.{any_below, IsSiphon, IsWithin, IsNonempty, IsGreatestSiphon, IsMinimalSiphon, HasSiphonWithout}
-use Rattle.closed_sets.proofs.Below.{cases_bool, apart, not_true, not_false, any_at, any_from, none_at}
+use Rattle.closed_sets.proofs.Below.{cases_bool, apart, not_true, not_false, any_from, none_at}
 
 -- a set that isn't empty has a place
 pub nonempty_from : (net : Net) (members : List Bool) → length members ≡ net.places → (IsEmpty members → ⊥) → IsNonempty net (has members)

@@ -1,6 +1,6 @@
 -- Commoner's condition (M. Hack, Analysis of production schemata by Petri nets, MIT, 1972; T. Murata, Petri
 -- nets: properties, analysis and applications, Proceedings of the IEEE 77, 1989).
-use Rattle.std.specs.Prelude.{◌≡◌, ℕ, ◌<◌, ◌≤◌, ◌==◌, Bool, IsTrue, ◌&&◌, nat_lt, List}
+use Rattle.std.specs.Prelude.{ℕ, ◌<◌, ◌≤◌, ◌==◌, Bool, IsTrue, ◌&&◌, nat_lt, List}
 use Rattle.net_values.specs.Net.{Net}
 use Rattle.net_values.specs.TokenGame.{Reach, IsReachable, IsDead}
 use Rattle.closed_sets.specs.ClosedSets.{any_below, IsSiphon, IsTrap, IsWithin, IsNonempty}

@@ -1,6 +1,6 @@
 -- What a step of the fixpoint keeps and how far it comes. Sets are lists of truth values here, so that
 -- their members can be counted.
-use Rattle.std.specs.Prelude.{◌≡◌, ℕ, ◌<◌, List, Bool, false, IsTrue}
+use Rattle.std.specs.Prelude.{◌≡◌, ℕ, ◌<◌, List, Bool, false}
 use Rattle.std.specs.List.{count_by}
 use Rattle.net_values.specs.Net.{Net}
 use Rattle.net_values.specs.PlaceSets.{has}

@@ -1,7 +1,12 @@
-ghost use Rattle.std.specs.Prelude.{◌↔◌, ℕ, Bool};
+ghost use Rattle.std.specs.Prelude.{◌↔◌, ◌||◌, ℕ, Bool};
 ghost use Rattle.net_values.specs.Net.{Net, reversed};
 ghost use Rattle.closed_sets.specs.ClosedSets.{IsSiphon, IsTrap};
 ghost use Rattle.closed_sets.specs.Commoner.{TrapsStayMarked, DeadEmptiesASiphon, CommonerExcludesDead};
+
+/// The union of two siphons is a siphon, so each set has a greatest siphon in it (Murata 1989).
+pub fn unions_of_siphons_are_siphons()
+    ensures { (net : Net) (S R : ℕ → Bool) → IsSiphon net S → IsSiphon net R → IsSiphon net (λ p. S p || R p) }
+{}
 
 /// Traps are the siphons of the net with every arc turned round.
 pub fn traps_are_siphons_reversed()

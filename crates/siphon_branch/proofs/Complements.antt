@@ -1,13 +1,12 @@
 -- The complement of the avoided set, place by place, and the greatest siphon in it. A siphon belongs to a
 -- class exactly where it contains the one set and lies in the complement of the other, so some siphon
 -- belongs to it exactly where the greatest siphon in the complement contains the one set.
-use Rattle.std.proofs.Common.{◌≡◌, ◌↔◌, refl, sym, ap, ◌∙◌, ℕ, ◌+◌, ◌<◌, ◌≤◌, List, Bool, true, false, IsTrue, not, length, get_or, set, replicate, length-set, inl, inr, arith}
-use Rattle.std.proofs.lemmas.Bool.{cases_lt, cases_eq, false≢true}
+use Rattle.std.proofs.Common.{◌≡◌, ◌↔◌, sym, ◌∙◌, ℕ, ◌+◌, ◌<◌, ◌≤◌, List, Bool, true, false, IsTrue, not, length, set, replicate, length-set, inl, inr, arith}
+use Rattle.std.proofs.lemmas.Bool.{cases_lt, cases_eq}
 use Rattle.std.proofs.lemmas.List.{get_or_past, get_or-set_same, get_or-set_other, get_or-replicate, length-replicate}
 use Rattle.net_values.specs.Net.{Net}
 use Rattle.net_values.specs.PlaceSets.{has, IsSubset}
-use Rattle.closed_sets.specs.ClosedSets.{IsSiphon, IsWithin, IsGreatestSiphon}
-use Rattle.closed_sets.specs.Growth.{Belongs}
+use Rattle.closed_sets.specs.ClosedSets.{IsWithin, IsGreatestSiphon}
 use Rattle.closed_sets.proofs.Below.{cases_bool, apart, not_true, not_false}
 use Rattle.siphon_branch.specs.declared.branch.Branch.{Branch}
 use Rattle.siphon_branch.specs.Classes.{HasSize, IsLive}

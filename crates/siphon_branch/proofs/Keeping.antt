@@ -1,5 +1,5 @@
 -- The minimal siphons among sets that are all distinct: going on by one set, it is kept where it is minimal.
-use Rattle.std.proofs.Common.{◌≡◌, ◌↔◌, ◌⊎◌, refl, sym, ap, ◌∙◌, subst, ℕ, ◌+◌, ◌<◌, ◌≤◌, List, [], ◌∷◌, ◌++◌, Bool, true, false, IsTrue, length, get_or, take, All, Contains, inl, inr, arith}
+use Rattle.std.proofs.Common.{◌≡◌, sym, ap, ◌∙◌, subst, ℕ, ◌+◌, ◌<◌, ◌≤◌, List, [], ◌∷◌, ◌++◌, Bool, length, get_or, take, All, Contains, inl, inr, arith}
 use Rattle.std.proofs.lemmas.List.{take_more, get_or-take, length-take-le, get_or_default, take_all}
 use Rattle.std.proofs.lemmas.List.Elements.{Contains-push, Contains-push_cases, Contains-append_left, All-take}
 use Rattle.net_values.specs.Net.{Net}

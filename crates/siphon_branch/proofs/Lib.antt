@@ -6,3 +6,5 @@ pub mod Roots
 pub mod Keeping
 pub mod MinimalGrown
 pub mod Sorting
+pub mod Covers
+pub mod LiveClasses

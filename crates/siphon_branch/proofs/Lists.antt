@@ -1,10 +1,10 @@
 -- Lists of sets, each once: two lists with nothing in common make one of both, and what is appended in two
 -- steps is appended together.
-use Rattle.std.proofs.Common.{◌≡◌, refl, sym, ap, ◌∙◌, subst, ℕ, ◌+◌, ◌-◌, ◌<◌, ◌≤◌, ◌↔◌, ◌⊎◌, List, [], ◌∷◌, ◌++◌, Bool, IsTrue, length, get_or, append_assoc, length-append, inl, inr, All, AllPairs, Contains, Result, Ok, Err, OnOk, arith}
+use Rattle.std.proofs.Common.{◌≡◌, refl, sym, ap, ◌∙◌, subst, ℕ, ◌+◌, ◌-◌, ◌<◌, ◌↔◌, ◌⊎◌, List, [], ◌∷◌, ◌++◌, Bool, length, get_or, append_assoc, length-append, inl, inr, All, Contains, Result, Ok, Err, OnOk, arith}
 use Rattle.std.proofs.lemmas.Bool.{cases_lt}
 use Rattle.std.proofs.lemmas.List.{get_or_append_left, get_or-append_right, append-nil, get_or_default}
 use Rattle.std.proofs.lemmas.List.Elements.{Contains-append_left, Contains-append_right, Contains-append_cases}
-use Rattle.siphon_branch.specs.Met.{AreDistinct, IsListOf, Adds, AddsSome}
+use Rattle.siphon_branch.specs.Met.{AreDistinct, Adds, AddsSome}
 
 contains_at : {X : Type 0} (xs : List X) (i : ℕ) (d : X) → i < length xs → Contains xs (get_or xs i d)
 contains_at xs i d within = (i, within, get_or_default xs i (get_or xs i d) d within)

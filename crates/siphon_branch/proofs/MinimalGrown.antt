@@ -1,10 +1,10 @@
 -- A set in a siphon grows to a whole siphon in it: while a transition is open it has an input place in the
 -- siphon, and each step leaves one place less outside. A minimal siphon contains what grows from its lowest
 -- place, and so is grown.
-use Rattle.std.proofs.Common.{◌≡◌, refl, sym, ap, ◌∙◌, subst, ℕ, zero, suc, ◌+◌, ◌<◌, ◌≤◌, ◌==◌, ◌&&◌, ◌||◌, ◌⊎◌, Bool, true, false, IsTrue, eqb, ltb, cond, not, inl, inr, arith}
-use Rattle.std.proofs.lemmas.Bool.{cases_lt, cases_eq, true≢false, false≢true, eq-eqb, eqb-true, lt-ltb, ltb-true}
+use Rattle.std.proofs.Common.{◌≡◌, refl, sym, ap, subst, ℕ, zero, suc, ◌+◌, ◌<◌, ◌≤◌, ◌==◌, ◌⊎◌, Bool, true, false, IsTrue, ltb, cond, inl, inr, arith}
+use Rattle.std.proofs.lemmas.Bool.{cases_eq, false≢true, eq-eqb, eqb-true, ltb-true}
 use Rattle.net_values.specs.Net.{Net}
-use Rattle.closed_sets.specs.ClosedSets.{any_below, has_input_in, has_output_in, IsSiphon, IsWithin, IsNonempty, IsMinimalSiphon}
+use Rattle.closed_sets.specs.ClosedSets.{has_input_in, has_output_in, IsSiphon, IsWithin, IsMinimalSiphon}
 use Rattle.closed_sets.specs.Growth.{IsFirst, is_open, is_input_in, with_place, only_place, GrowsWhole, whole, more, IsGrown}
 use Rattle.closed_sets.proofs.Below.{cases_bool, apart, both, both_left, both_right, not_false, any_at, any_from, pair_at, pair_from}
 use Rattle.closed_sets.proofs.Passes.{siphon_from_closed}
@@ -36,12 +36,12 @@ one_less true false h = absurd (false≢true (h refl))
 one_less false true h = omega arith
 one_less false false h = omega arith
 
-outside_le : (n : ℕ) (A A' : ℕ → Bool) → ((k : ℕ) → IsTrue (A k) → IsTrue (A' k)) → outside n A' ≤ outside n A
+outside_le : (n : ℕ) (A A' : ℕ → Bool) → ((k : ℕ) → k < n → IsTrue (A k) → IsTrue (A' k)) → outside n A' ≤ outside n A
 unfolding outside
 outside_le zero A A' within = omega arith
-outside_le (suc n) A A' within = omega (arith, one_less (A n) (A' n) (within n), outside_le n A A' within)
+outside_le (suc n) A A' within = omega (arith, one_less (A n) (A' n) (within n (omega arith)), outside_le n A A' (λ k less. within k (omega arith)))
 
-outside_lt : (n : ℕ) (A A' : ℕ → Bool) (p : ℕ) → ((k : ℕ) → IsTrue (A k) → IsTrue (A' k)) → p < n → A p ≡ false → IsTrue (A' p) → outside n A' < outside n A
+pub outside_lt : (n : ℕ) (A A' : ℕ → Bool) (p : ℕ) → ((k : ℕ) → k < n → IsTrue (A k) → IsTrue (A' k)) → p < n → A p ≡ false → IsTrue (A' p) → outside n A' < outside n A
 unfolding outside
 outside_lt zero A A' p within below out inside = absurd (omega arith)
 outside_lt (suc n) A A' p within below out inside =
@@ -49,8 +49,8 @@ outside_lt (suc n) A A' p within below out inside =
       | inl same ↦
           let old : cond {A = ℕ} (A n) 0 1 ≡ 1 = ap (λ (b : Bool). cond {A = ℕ} b 0 1) (subst (λ (m : ℕ). A m ≡ false) same out) in
           let new : cond {A = ℕ} (A' n) 0 1 ≡ 0 = ap (λ (b : Bool). cond {A = ℕ} b 0 1) (subst (λ (m : ℕ). A' m ≡ true) same inside) in
-          omega (arith, outside_le n A A' within)
-      | inr other ↦ omega (arith, one_less (A n) (A' n) (within n), outside_lt n A A' p within (omega arith) out inside)
+          omega (arith, outside_le n A A' (λ k less. within k (omega arith)))
+      | inr other ↦ omega (arith, one_less (A n) (A' n) (within n (omega arith)), outside_lt n A A' p (λ k less. within k (omega arith)) (omega arith) out inside)
     ]
 
 pub record GrowsIn (net : Net) (U A : ℕ → Bool) : Type 0 where
@@ -81,7 +81,7 @@ grows_in (suc steps) net U A siphon within few =
                   | inl inside ↦ absurd (apart (has_input_in net A t) (pair_at net.places A (λ q. net.pre q t) p input.1.below inside (ltb-true 0 (net.pre p t) weighs)) (not_false _ (both_right (has_output_in net A t) _ opens.1.passes)))
                   | inr fails ↦ fails
                 ] in
-                let less = outside_lt net.places A (with_place A p) p (λ k inside. or_right (k == p) (A k) inside) input.1.below out (or_left (p == p) (A p) (eq-eqb p p refl)) in
+                let less = outside_lt net.places A (with_place A p) p (λ k _ inside. or_right (k == p) (A k) inside) input.1.below out (or_left (p == p) (A p) (eq-eqb p p refl)) in
                 let rest = grows_in steps net U (with_place A p) siphon
                 (λ q below inside. elim (either (q == p) (A q) inside) [
                   | inl same ↦ subst (λ (r : ℕ). IsTrue (U r)) (sym (eqb-true q p same)) member

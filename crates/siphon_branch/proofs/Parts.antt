@@ -2,19 +2,19 @@
 -- search goes over them in their order: what it has met is what is grown in the class and has one of the
 -- places so far, since each part has the next place and avoids those before it. When all are passed, each
 -- siphon of the class has one of them, since it has an output place of that transition.
-use Rattle.std.proofs.Common.{◌≡◌, ◌≢◌, ◌↔◌, ◌⊎◌, refl, sym, ap, ◌∙◌, subst, ℕ, ◌+◌, ◌-◌, ◌<◌, ◌≤◌, ◌==◌, ◌||◌, List, [], ◌∷◌, ◌++◌, Bool, true, false, IsTrue, eqb, cond, not, length, get_or, set, take, All, length-set, inl, inr, arith}
-use Rattle.std.specs.List.{list_any, count_by}
+use Rattle.std.proofs.Common.{◌≡◌, ◌↔◌, ◌⊎◌, refl, sym, ap, ◌∙◌, subst, ℕ, ◌+◌, ◌-◌, ◌<◌, ◌≤◌, ◌==◌, ◌||◌, List, [], ◌∷◌, ◌++◌, Bool, true, false, IsTrue, eqb, cond, length, get_or, set, take, length-set, inl, inr, arith}
+use Rattle.std.specs.List.{list_any}
 use Rattle.std.proofs.Math.Bool.{or-false}
 use Rattle.std.proofs.lemmas.Bool.{cases_lt, cases_eq, true≢false, false≢true, eq-eqb, eqb-true}
-use Rattle.std.proofs.lemmas.List.{get_or_past, get_or-set_same, get_or-set_other, set-set, set-get_or, get_or-take, length-take-le, get_or_default, take_all, same_lists}
-use Rattle.std.proofs.lemmas.List.Folds.{Any-from_list_any, list_any-from_Any, list_any_at, list_any_more}
+use Rattle.std.proofs.lemmas.List.{get_or-set_same, get_or-set_other, set-set, set-get_or, get_or-take, length-take-le, get_or_default, take_all, same_lists}
+use Rattle.std.proofs.lemmas.List.Folds.{Any-from_list_any, list_any_at, list_any_more}
 use Rattle.std.proofs.lemmas.List.Sums.{sum_by-set, count_by-le-length}
 use Rattle.net_values.specs.declared.column.WeightedPlace.{WeightedPlace}
 use Rattle.net_values.specs.Columns.{Lists}
 use Rattle.net_values.specs.Net.{Net}
 use Rattle.net_values.specs.PlaceSets.{has}
-use Rattle.closed_sets.specs.ClosedSets.{any_below, has_input_in, has_output_in, IsSiphon, IsWithin}
-use Rattle.closed_sets.specs.Growth.{IsFirst, is_open, with_place, Belongs, GrowsWhole, whole}
+use Rattle.closed_sets.specs.ClosedSets.{has_input_in, has_output_in, IsSiphon}
+use Rattle.closed_sets.specs.Growth.{IsFirst, is_open, with_place, Belongs, whole}
 use Rattle.closed_sets.specs.Passes.{members}
 use Rattle.closed_sets.proofs.Below.{cases_bool, apart, both_left, both_right, not_false, pair_at, pair_from}
 use Rattle.closed_sets.proofs.Passes.{meets_is}
@@ -22,7 +22,6 @@ use Rattle.siphon_branch.specs.declared.branch.Branch.{Branch}
 use Rattle.siphon_branch.specs.Classes.{HasSize, IsLive}
 use Rattle.siphon_branch.specs.Met.{Adds, AddsSome, Meets, Overruns, IsGrownFrom}
 use Rattle.siphon_branch.proofs.Growths.{either, or_left, or_right, same_growth, growth_over, from_part, to_part}
-use Rattle.siphon_branch.proofs.Complements.{has_within}
 use Rattle.siphon_branch.proofs.Lists.{adds_on, some_on, adds_same, some_within, adds_nothing, adds_one, adds_some}
 
 abbrev pub nowhere : WeightedPlace

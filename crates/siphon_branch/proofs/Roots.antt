@@ -1,20 +1,20 @@
 -- The search over all siphons is parted by the lowest place: the siphons that are grown in the class of one
 -- place that avoids those before it are the grown siphons with that lowest place.
-use Rattle.std.proofs.Common.{◌≡◌, ◌↔◌, ◌⊎◌, refl, sym, ap, ◌∙◌, subst, ℕ, zero, suc, ◌+◌, ◌<◌, ◌≤◌, ◌||◌, List, [], Bool, true, false, IsTrue, eqb, ltb, length, set, replicate, length-set, add-one, inl, inr, arith}
+use Rattle.std.proofs.Common.{◌≡◌, ◌↔◌, ◌⊎◌, refl, sym, ap, ◌∙◌, subst, ℕ, ◌+◌, ◌<◌, ◌≤◌, ◌||◌, List, Bool, true, false, IsTrue, eqb, ltb, length, set, replicate, length-set, add-one, inl, inr, arith}
 use Rattle.std.proofs.Math.Bool.{or-false}
 use Rattle.std.proofs.lemmas.Bool.{cases_lt, cases_eq, eq-eqb, eqb-true, lt-ltb, ltb-true, le-ltb}
 use Rattle.std.proofs.lemmas.List.{get_or_past, get_or-replicate, length-replicate}
 use Rattle.net_values.specs.Net.{Net}
 use Rattle.net_values.specs.PlaceSets.{has}
 use Rattle.closed_sets.specs.ClosedSets.{any_below}
-use Rattle.closed_sets.specs.Growth.{IsFirst, only_place, with_place, Belongs, GrowsWhole, IsGrown}
-use Rattle.closed_sets.proofs.Below.{cases_bool, apart, any_at, any_from, none_from, none_at}
+use Rattle.closed_sets.specs.Growth.{IsFirst, only_place, GrowsWhole}
+use Rattle.closed_sets.proofs.Below.{cases_bool, apart, any_at, none_from, none_at}
 use Rattle.siphon_branch.specs.declared.branch.Branch.{Branch}
 use Rattle.siphon_branch.specs.Classes.{HasSize}
-use Rattle.siphon_branch.specs.Met.{Adds, AddsSome, Meets, Overruns, IsGrownFrom, IsGrownSet}
+use Rattle.siphon_branch.specs.Met.{Meets, Overruns, IsGrownFrom, IsGrownSet}
 use Rattle.siphon_branch.proofs.Growths.{either, or_left, or_right, same_growth, first_same}
 use Rattle.siphon_branch.proofs.Lists.{adds_on, some_on, adds_same, some_within, adds_nothing}
-use Rattle.siphon_branch.proofs.Parts.{placed, taken_back, same_bools, or_skip}
+use Rattle.siphon_branch.proofs.Parts.{placed, taken_back, same_bools}
 
 -- the grown siphons met before place n
 abbrev pub FoundBefore : Net → ℕ → List Bool → Type 0

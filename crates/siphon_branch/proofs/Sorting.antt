@@ -1,6 +1,6 @@
 -- Distinct sets that are sorted ascend strictly, since sets that compare as equal are equal. The list is
 -- that of the minimal siphons: each is grown, so it was met and kept.
-use Rattle.std.proofs.Common.{◌≡◌, ◌↔◌, refl, sym, ap, ◌∙◌, subst, ℕ, ◌<◌, ◌≤◌, List, [], ◌∷◌, ◌++◌, Bool, true, false, IsTrue, length, get_or, Contains, Decides, arith}
+use Rattle.std.proofs.Common.{◌≡◌, refl, sym, ap, ◌∙◌, subst, ℕ, ◌<◌, List, [], ◌∷◌, ◌++◌, Bool, true, false, length, get_or, Contains, Decides, arith}
 use Rattle.std.specs.declared.cmp.Ordering.{Ordering}
 use Rattle.std.specs.declared.cmp.Ordering.TheVariants.{Less, Equal, Greater}
 use Rattle.std.specs.Cmp.Lexicographic.{slice_cmp}
@@ -8,7 +8,7 @@ use Rattle.std.specs.Cmp.{bool_cmp_total, IsTotalOrder, Equal-is}
 use Rattle.std.specs.Ordering.{bool_cmp, is_eq, is_lt, ordering_reverse}
 use Rattle.std.specs.List.Sorted.{IsPermutation, IsSorted}
 use Rattle.std.proofs.lemmas.Cmp.{lists_total}
-use Rattle.std.proofs.lemmas.Bool.{true≢false, false≢true}
+use Rattle.std.proofs.lemmas.Bool.{true≢false}
 use Rattle.std.proofs.lemmas.Bool.Decides.{same_from_decides}
 use Rattle.std.proofs.lemmas.Map.Keys.{IsDistinct-IsPermutation}
 use Rattle.std.proofs.lemmas.Map.Made.{AllPairs-from_IsDistinct, IsDistinct-from_AllPairs}
@@ -18,7 +18,7 @@ use Rattle.net_values.specs.Net.{Net}
 use Rattle.net_values.specs.PlaceSets.{has}
 use Rattle.net_values.specs.TheList.{IsTheList}
 use Rattle.closed_sets.specs.ClosedSets.{IsMinimalSiphon}
-use Rattle.siphon_branch.specs.Met.{AreDistinct, IsListOf, Adds, Meets, Overruns, PassesLimit, IsGrownSet, IsMinimalSet}
+use Rattle.siphon_branch.specs.Met.{AreDistinct, IsListOf, Adds, Overruns, PassesLimit, IsGrownSet, IsMinimalSet}
 use Rattle.siphon_branch.proofs.MinimalGrown.{minimal_grown}
 
 equal_sets : (one other : List Bool) → slice_cmp bool_cmp one other ≡ Equal → one ≡ other

@@ -1,8 +1,8 @@
 -- Classes of a search: the siphons that contain one set of places and avoid another.
-use Rattle.std.specs.Prelude.{◌≡◌, ℕ, List, Bool, length}
+use Rattle.std.specs.Prelude.{◌≡◌, ℕ, Bool, length}
 use Rattle.net_values.specs.Net.{Net}
 use Rattle.net_values.specs.PlaceSets.{has}
-use Rattle.closed_sets.specs.ClosedSets.{IsSiphon, IsNonempty}
+use Rattle.closed_sets.specs.ClosedSets.{IsSiphon}
 use Rattle.closed_sets.specs.Growth.{Belongs}
 use Rattle.siphon_branch.specs.declared.branch.Branch.{Branch}
 

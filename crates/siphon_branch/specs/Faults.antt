@@ -1,5 +1,5 @@
 -- Why a search gives no list.
-use Rattle.std.specs.Prelude.{ℕ, List, Bool}
+use Rattle.std.specs.Prelude.{ℕ}
 use Rattle.net_values.specs.Net.{Net}
 use Rattle.siphon_branch.specs.declared.fault.SetFault.{SetFault}
 use Rattle.siphon_branch.specs.declared.fault.SetFault.TheVariants.{NoMemory, SetLimit}

@@ -2,3 +2,4 @@
 pub mod Met
 pub mod Classes
 pub mod Faults
+pub mod Laws

@@ -1,6 +1,6 @@
 -- The sets that a search meets, as lists: each set is the list of truth values that tell for each place of
 -- the net whether it is in.
-use Rattle.std.specs.Prelude.{◌≡◌, ◌↔◌, ◌<◌, ◌≤◌, ℕ, ◌+◌, List, Bool, ◌++◌, length, IsTrue, All, AllPairs, Any, Contains}
+use Rattle.std.specs.Prelude.{◌≡◌, ◌↔◌, ◌≤◌, ℕ, ◌+◌, List, Bool, ◌++◌, length, AllPairs, Any, Contains}
 use Rattle.net_values.specs.Net.{Net}
 use Rattle.net_values.specs.PlaceSets.{has}
 use Rattle.closed_sets.specs.ClosedSets.{IsSiphon, IsWithin, IsNonempty, IsMinimalSiphon}

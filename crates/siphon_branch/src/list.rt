@@ -6,7 +6,7 @@ ghost use Rattle.net_values.specs.PlaceSets.{has};
 ghost use Rattle.net_values.specs.TheList.{IsTheList};
 ghost use Rattle.closed_sets.specs.ClosedSets.{IsMinimalSiphon};
 ghost use Rattle.siphon_branch.specs.Faults.{FailsToList};
-ghost use Rattle.siphon_branch.specs.Met.{AreDistinct, HasAtMostGrown, IsListOf, IsMinimalSet};
+ghost use Rattle.siphon_branch.specs.Met.{AreDistinct, CoversSiphons, HasAtMostGrown, IsListOf, IsMinimalSet};
 
 use crate::fault::{SetFault, Stop};
 use crate::search::meet_all;
@@ -16,10 +16,11 @@ use std::alloc::Global;
 
 /// The list of all minimal siphons of the net, each compared as its list of 0 and 1, strictly ascending. It
 /// comes exactly where the net has at most `sets` grown siphons; else `SetLimit` with `sets + 1` distinct
-/// grown siphons.
+/// grown siphons. Every nonempty siphon contains a listed one.
 pub fn minimal_siphons(alloc: Global, net: &FlatNet, sets: u32) -> Result<Sets, SetFault>
     ensures list { IfOk result (λ list. IsTheList (slice_cmp bool_cmp) (IsMinimalSet (net_of net.now)) list) }
     ensures few { OnOk result (HasAtMostGrown (net_of net.now) sets) }
+    ensures covers { IfOk result (λ list. CoversSiphons (net_of net.now) list) }
     ensures fault { IfErr result (FailsToList (net_of net.now) sets) }
 {
     let mut met = Sets::new(alloc);

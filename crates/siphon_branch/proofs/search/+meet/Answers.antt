@@ -1,4 +1,4 @@
-use Rattle.std.proofs.Common.{◌≡◌, ◌-◌, Result, Err, sym, ap, ◌∙◌, subst, ℕ, ◌+◌, ◌<◌, ◌≤◌, List, Bool, true, false, IsTrue, length, get_or, set, arith, rules}
+use Rattle.std.proofs.Common.{◌≡◌, ◌-◌, Result, Err, sym, ap, ◌∙◌, subst, ◌+◌, ◌<◌, ◌≤◌, List, Bool, true, false, length, get_or, set, arith, rules}
 use Rattle.std.proofs.lemmas.Result.{err_from_is_err_and}
 use Rattle.net_values.specs.FlatNets.{net_of}
 use Rattle.closed_sets.specs.Passes.{members}

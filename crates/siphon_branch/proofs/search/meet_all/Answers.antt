@@ -3,7 +3,6 @@ use Rattle.std.proofs.lemmas.Result.{err_from_is_err_and}
 use Rattle.net_values.specs.FlatNets.{net_of}
 use Rattle.siphon_branch.specs.declared.fault.Stop.{Stop}
 use Rattle.siphon_branch.specs.declared.fault.Stop.TheVariants.{SetLimit}
-use Rattle.siphon_branch.specs.Classes.{HasSize}
 use Rattle.siphon_branch.specs.Met.{IsGrownFrom, Meets, Overruns}
 use Rattle.siphon_branch.proofs.Roots.{IsBegun, begun_none, begun_more, begun_over, begun_all}
 use Rattle.siphon_branch.proofs.search.meet_all.Goals as goal
