@@ -1,15 +1,15 @@
 -- What a change of the lists does to the net. A transition without arcs has weight 0 everywhere, as has
 -- one that isn't there; an arc more changes one column.
-use Rattle.std.proofs.Common.{◌≡◌, refl, sym, ap, ◌∙◌, subst, ℕ, zero, suc, ◌+◌, ◌^◌, ◌<◌, ◌≤◌, ◌==◌, ◌&&◌, if◌then◌else◌, List, [], ◌∷◌, ◌++◌, length, map, take, All, get_or, set, inl, inr, arith}
-use Rattle.std.proofs.lemmas.Bool.{cases_eq}
+use Rattle.std.proofs.Common.{◌≡◌, refl, sym, ap, ◌∙◌, subst, ℕ, zero, suc, ◌+◌, ◌^◌, ◌<◌, ◌≤◌, ◌==◌, ◌&&◌, if◌then◌else◌, List, [], ◌∷◌, ◌++◌, length, map, take, All, get_or, set, slice_index, inl, inr, arith}
+use Rattle.std.proofs.lemmas.Bool.{cases_eq, cases_lt}
 use Rattle.std.proofs.lemmas.Bool.Decides.{nat_tests}
-use Rattle.std.proofs.lemmas.List.{get_or-set_same, get_or-set_other, map-set, set-get_or, get_or-map, get_or_read, length-map, take_more}
+use Rattle.std.proofs.lemmas.List.{get_or-set_same, get_or-set_other, map-set, set-get_or, get_or-map, get_or_read, get_or_append_left, get_or_past, get_or_push, length-map, length_push, take_more}
 use Rattle.net_values.specs.declared.column.WeightedPlace.{WeightedPlace}
 use Rattle.net_values.specs.declared.flat_net.FlatPlace.{FlatPlace}
 use Rattle.net_values.specs.declared.flat_net.FlatTransition.{FlatTransition}
 use Rattle.net_values.specs.Columns.{weight_at, AddsAt, IsColumn, Lists}
 use Rattle.net_values.proofs.Columns.{weight_here, lists_itself}
-use Rattle.net_values.specs.FlatNets.{turned, initial_marking, net_of, NetLists, AreWeights, IsFlatNet, Adds, Keeps, KeepsNodes, AddsInput, AddsOutput}
+use Rattle.net_values.specs.FlatNets.{turned, with_place, with_transition, initial_marking, net_of, NetLists, AreWeights, IsFlatNet, Adds, Keeps, KeepsNodes, AddsInput, AddsOutput}
 
 pub few_tokens : {places arcs : ℕ} {weights : ℕ → ℕ → ℕ} → AreWeights places arcs weights → arcs ≤ 65536 → (p t : ℕ) → weights p t < 2 ^ 80
 few_tokens h few p t = omega (arith, h.narrow p t)
@@ -55,6 +55,20 @@ module _ (side : FlatTransition → List WeightedPlace) where
             let after : get_or (set transitions t new) t (bare []) ≡ new = get_or-set_same transitions t new (bare []) within in
             rw (here, after, ← before) (ap (λ column. weight_at column q) same)
         | inr other ↦ ap (λ transition. weight_at (side transition) q) (get_or-set_other transitions t u new (bare []) other)
+      ]
+
+  -- a transition without arcs has the weights that it had before it was there
+  pub keeps_bare : (transitions : List FlatTransition) (new : FlatTransition) → side new ≡ side (bare []) → Keeps (weights transitions) (weights (transitions ++ new ∷ []))
+  keeps_bare transitions new without q u =
+      elim (cases_lt u (length transitions)) [
+        | inl before ↦ ap (λ (transition : FlatTransition). weight_at (side transition) q) (get_or_append_left transitions (new ∷ []) (bare []) u before)
+        | inr from ↦
+            let past : get_or transitions u (bare []) ≡ bare [] = get_or_past transitions u (bare []) from in
+            rw past
+            (elim (cases_eq (length transitions) u) [
+              | inl here ↦ ap (λ (transition : FlatTransition). weight_at (side transition) q) (get_or_push transitions new (bare []) u here) ∙ ap (λ (column : List WeightedPlace). weight_at column q) without
+              | inr after ↦ ap (λ (transition : FlatTransition). weight_at (side transition) q) (get_or_past (transitions ++ new ∷ []) u (bare []) (omega (arith, length_push transitions new)))
+            ])
       ]
 
   -- the entries of a column that was read are the weights of its transition
@@ -119,8 +133,29 @@ turned_net lists h = record {
 pub turned_nodes : (lists : NetLists) → KeepsNodes lists (turned_lists lists)
 turned_nodes lists = record { places = refl; transitions = turned_ids lists.transitions }
 
+marked_at : (places : List FlatPlace) (p : ℕ) → get_or (map (λ (place : FlatPlace). place.initial) places) p 0 ≡ (get_or places p record { id = []; initial = 0 }).initial
+marked_at [] p = refl
+marked_at (place ∷ places) zero = refl
+marked_at (place ∷ places) (suc p) = marked_at places p
+
+-- the initial marking as a list is that of the net
+pub initial_at : (lists : NetLists) (p : ℕ) → slice_index (initial_marking lists) p ≡ (net_of lists).initial p
+initial_at lists p = marked_at lists.places p
+
 -- the initial marking of one place more
-pub initial_more : (lists : NetLists) (p : ℕ) → p < length lists.places → take (p + 1) (initial_marking lists) ≡ take p (initial_marking lists) ++ (net_of lists).initial p ∷ []
-initial_more lists p within =
-    let marked : get_or (initial_marking lists) p 0 ≡ (net_of lists).initial p = get_or-map (λ (place : FlatPlace). place.initial) lists.places p record { id = []; initial = 0 } 0 within in
-    take_more (initial_marking lists) p 0 (omega (arith, length-map lists.places (λ (place : FlatPlace). place.initial))) ∙ ap (λ tokens. take p (initial_marking lists) ++ tokens ∷ []) marked
+pub initial_more : (lists : NetLists) (p : ℕ) (counts more : List ℕ) (tokens : ℕ) → p < length lists.places → counts ≡ take p (initial_marking lists) → tokens ≡ (net_of lists).initial p → more ≡ counts ++ tokens ∷ [] → more ≡ take (p + 1) (initial_marking lists)
+initial_more lists p counts more tokens within so_far read pushed =
+    let marked = initial_at lists p in
+    let next : take (p + 1) (initial_marking lists) ≡ take p (initial_marking lists) ++ get_or (initial_marking lists) p 0 ∷ [] =
+    take_more (initial_marking lists) p 0 (omega (arith, length-map lists.places (λ (place : FlatPlace). place.initial))) in
+    cc
+
+-- what a place or a transition more leaves of the weights
+pub place_keeps : (lists : NetLists) (id : List ℕ) (initial : ℕ) → Keeps (net_of lists).pre (net_of (with_place lists id initial)).pre × Keeps (net_of lists).post (net_of (with_place lists id initial)).post
+place_keeps lists id initial = (λ q u. refl, λ q u. refl)
+
+pub transition_keeps : (lists : NetLists) (id : List ℕ) → Keeps (net_of lists).pre (net_of (with_transition lists id)).pre × Keeps (net_of lists).post (net_of (with_transition lists id)).post
+transition_keeps lists id = (
+  keeps_bare (λ (transition : FlatTransition). transition.inputs) lists.transitions (bare id) refl,
+  keeps_bare (λ (transition : FlatTransition). transition.outputs) lists.transitions (bare id) refl,
+)

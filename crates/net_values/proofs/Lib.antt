@@ -3,3 +3,4 @@ pub mod Columns
 pub mod FlatNets
 pub mod TokenCounts
 pub mod Lowest
+pub mod SortedLists

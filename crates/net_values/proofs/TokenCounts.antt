@@ -6,19 +6,11 @@ use Rattle.std.proofs.lemmas.Bool.{cases_lt}
 use Rattle.std.proofs.lemmas.List.{get_or_read, get_or_past}
 use Rattle.std.proofs.lemmas.List.Sums.{sum_by_more_le}
 use Rattle.net_values.specs.declared.column.WeightedPlace.{WeightedPlace}
-use Rattle.net_values.specs.Columns.{part_at, weight_at}
+use Rattle.net_values.specs.Columns.{part_at, weight_at, LeftOf, GivenTo}
 use Rattle.net_values.proofs.Columns.{part_same}
 
 abbrev pub nowhere : WeightedPlace
 nowhere = record { place = 0; weight = 0 }
-
--- the counts that are left where the first k entries were taken
-abbrev pub LeftOf : List ℕ → List WeightedPlace → List ℕ → Type 0
-LeftOf before entries counts = (p : ℕ) → slice_index counts p + weight_at entries p ≡ slice_index before p
-
--- the counts where they were given
-abbrev pub GivenTo : List ℕ → List WeightedPlace → List ℕ → Type 0
-GivenTo before entries counts = (p : ℕ) → slice_index counts p ≡ slice_index before p + weight_at entries p
 
 module _ (before counts : List ℕ) (entries : List WeightedPlace) (k : ℕ) (count : ℕ) where
   abbrev entry : WeightedPlace

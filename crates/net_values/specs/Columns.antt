@@ -1,5 +1,5 @@
 -- One column of a net's matrix of arc weights: the places with a positive weight, in ascending order.
-use Rattle.std.specs.Prelude.{◌≡◌, ℕ, ◌+◌, ◌<◌, ◌≤◌, ◌==◌, if◌then◌else◌, List, length, All, AllPairs, Any, sum_by}
+use Rattle.std.specs.Prelude.{◌≡◌, ℕ, ◌+◌, ◌<◌, ◌≤◌, ◌==◌, if◌then◌else◌, List, length, All, AllPairs, Any, slice_index, sum_by}
 use Rattle.std.specs.List.{AllWithin, HoldsAt}
 use Rattle.net_values.specs.declared.column.WeightedPlace.{WeightedPlace}
 
@@ -19,6 +19,14 @@ pub record IsColumn (column : List WeightedPlace) : Type 0 where
 -- the new column has this much more at the place, and as much as before elsewhere
 abbrev pub AddsAt : List WeightedPlace → List WeightedPlace → ℕ → ℕ → Type 0
 AddsAt old new p weight = (q : ℕ) → weight_at new q ≡ weight_at old q + (if q == p then weight else 0)
+
+-- the new counts are what is left of the old ones where each place gave its weight
+abbrev pub LeftOf : List ℕ → List WeightedPlace → List ℕ → Type 0
+LeftOf old column new = (p : ℕ) → slice_index new p + weight_at column p ≡ slice_index old p
+
+-- the new counts are the old ones where each place was given its weight
+abbrev pub GivenTo : List ℕ → List WeightedPlace → List ℕ → Type 0
+GivenTo old column new = (p : ℕ) → slice_index new p ≡ slice_index old p + weight_at column p
 
 -- the entry of the place stands at k
 pub record StandsAt (column : List WeightedPlace) (p : ℕ) (k : ℕ) : Type 0 where

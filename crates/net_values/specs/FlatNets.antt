@@ -1,6 +1,6 @@
 -- A net with its ids, as lists: the places and the transitions in order, and the number of arcs that
 -- were added. The net itself is read off by `net_of`.
-use Rattle.std.specs.Prelude.{◌≡◌, ℕ, ◌+◌, ◌-◌, ◌*◌, ◌^◌, ◌<◌, ◌≤◌, ◌==◌, ◌&&◌, if◌then◌else◌, List, [], length, map, slice_index_or}
+use Rattle.std.specs.Prelude.{◌≡◌, ℕ, ◌+◌, ◌-◌, ◌*◌, ◌^◌, ◌<◌, ◌≤◌, ◌==◌, ◌&&◌, if◌then◌else◌, List, [], ◌∷◌, ◌++◌, length, map, slice_index_or}
 use Rattle.net_values.specs.declared.flat_net.FlatPlace.{FlatPlace}
 use Rattle.net_values.specs.declared.flat_net.FlatTransition.{FlatTransition}
 use Rattle.net_values.specs.Columns.{weight_at}
@@ -36,6 +36,14 @@ net_of lists = record {
 -- the initial marking as a list
 abbrev pub initial_marking : NetLists → List ℕ
 initial_marking lists = map (λ place. place.initial) lists.places
+
+-- the lists with a place more, and with a transition without arcs more
+abbrev pub with_place : NetLists → List ℕ → ℕ → NetLists
+with_place lists id initial = record lists { places = lists.places ++ record { id = id; initial = initial } ∷ [] }
+
+abbrev pub with_transition : NetLists → List ℕ → NetLists
+with_transition lists id =
+    record lists { transitions = lists.transitions ++ record { id = id; inputs = []; outputs = [] } ∷ [] }
 
 -- positive at places alone, and at most the sum of this many arcs of weight 2^64 - 1
 pub record AreWeights (places arcs : ℕ) (weights : ℕ → ℕ → ℕ) : Type 0 where

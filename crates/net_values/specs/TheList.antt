@@ -1,5 +1,5 @@
 -- Lists of lists: all of one length, and in strictly ascending lexicographic order.
-use Rattle.std.specs.Prelude.{◌≡◌, ◌↔◌, ℕ, List, length, All, AllPairs, Contains}
+use Rattle.std.specs.Prelude.{◌≡◌, ◌≢◌, ◌↔◌, ℕ, List, length, All, AllPairs, Contains}
 use Rattle.std.specs.declared.cmp.Ordering.{Ordering}
 use Rattle.std.specs.declared.cmp.Ordering.TheVariants.{Less}
 
@@ -7,6 +7,10 @@ use Rattle.std.specs.declared.cmp.Ordering.TheVariants.{Less}
 pub record HaveOneLength {X : Type 0} (lists : List (List X)) : Type 0 where
   pub common : ℕ
   pub alike : All (λ list. length list ≡ common) lists
+
+-- no two members are equal
+pub record AreApart {X : Type 0} (list : List X) : Type 0 where
+  pub apart : AllPairs (λ one later. one ≢ later) list
 
 -- each member is below the later ones
 abbrev pub IsStrictlyAscending : {X : Type 0} → (X → X → Ordering) → List X → Type 0

@@ -12,8 +12,8 @@ pub struct WeightedPlace {
     pub weight: u128,
 }
 
-/// The weights of the arcs between one transition and the places, in one direction. Contracts see it as
-/// the list of the places with a positive weight, in ascending order.
+/// The weights of the arcs between one transition and the places, in one direction. Contracts see it
+/// as the list of the places with a positive weight, in ascending order.
 #[derive(Drop)]
 pub struct Column {
     entries: Vec<WeightedPlace>,

@@ -22,8 +22,8 @@ pub struct FlatTransition {
     pub outputs: Column,
 }
 
-/// A place/transition net (ISO/IEC 15909-1) with at most 2,048 places, 2,048 transitions and 65,536 arcs.
-/// Contracts see its places and transitions in order and the number of arcs that were added.
+/// A place/transition net (ISO/IEC 15909-1) with at most 2,048 places, 2,048 transitions and 65,536
+/// arcs. Contracts see its places and transitions in order and the number of arcs that were added.
 #[derive(Drop)]
 pub struct FlatNet {
     places: Vec<FlatPlace>,
@@ -36,15 +36,24 @@ impl Model for FlatNet {
 
     ghost Value = { NetLists };
 
-    ghost view = { λ n. record { places = n.places.items; transitions = n.transitions.items; arcs = n.arcs } };
+    ghost view = { λ n. record {
+      places = n.places.items;
+      transitions = n.transitions.items;
+      arcs = n.arcs;
+    } };
 
-    ghost invariant = { λ n. IsFlatNet record { places = n.places.items; transitions = n.transitions.items; arcs = n.arcs } };
+    ghost invariant = { λ n. IsFlatNet record {
+      places = n.places.items;
+      transitions = n.transitions.items;
+      arcs = n.arcs;
+    } };
 }
 
 impl FlatNet {
-    ghost use Rattle.std.specs.Prelude.{◌≡◌, [], ◌∷◌, ◌++◌, ◌<◌, ◌≤◌, ◌^◌, IfOk, OnOk, OnErr, All, length};
+    ghost use Rattle.std.specs.Prelude.{◌≡◌, [], ◌<◌, ◌≤◌, ◌^◌, IfOk, OnOk, OnErr, All, length};
     ghost use Rattle.net_values.specs.Columns.{Lists};
-    ghost use Rattle.net_values.specs.FlatNets.{net_of, place_at, transition_at, IsFlatNet, AddsInput, AddsOutput, KeepsNodes};
+    ghost use Rattle.net_values.specs.FlatNets.{net_of, place_at, transition_at, with_place, with_transition};
+    ghost use Rattle.net_values.specs.FlatNets.{IsFlatNet, AddsInput, AddsOutput, KeepsNodes};
     ghost use Rattle.net_values.specs.Net.{reversed};
 
     /// The empty net, which takes no memory until it grows.
@@ -58,10 +67,11 @@ impl FlatNet {
         }
     }
 
-    /// Appends a place with its initial marking. A refusal leaves the net unchanged and drops the id.
+    /// Appends a place with its initial marking. A refusal leaves the net unchanged and drops the
+    /// id.
     pub fn add_place(&mut self, id: Text, initial: u64) -> Result<(), NoMemory>
         requires { length self.old.places < 2048 }
-        ensures ok { OnOk result (self.new ≡ record self.old { places = self.old.places ++ record { id = id; initial = initial } ∷ [] }) }
+        ensures ok { OnOk result (self.new ≡ with_place self.old id initial) }
         ensures err { OnErr result (self.new ≡ self.old) }
     {
         self.places.push(FlatPlace { id, initial })?;
@@ -71,7 +81,7 @@ impl FlatNet {
     /// Appends a transition without arcs. A refusal leaves the net unchanged and drops the id.
     pub fn add_transition(&mut self, id: Text) -> Result<(), NoMemory>
         requires { length self.old.transitions < 2048 }
-        ensures ok { OnOk result (self.new ≡ record self.old { transitions = self.old.transitions ++ record { id = id; inputs = []; outputs = [] } ∷ [] }) }
+        ensures ok { OnOk result (self.new ≡ with_transition self.old id) }
         ensures err { OnErr result (self.new ≡ self.old) }
     {
         let alloc = *self.transitions.allocator();
@@ -83,8 +93,8 @@ impl FlatNet {
         Ok(())
     }
 
-    /// Adds an arc from place `p` to transition `t`: its weight is added to that of the arcs that join
-    /// them already. A refusal leaves the net unchanged.
+    /// Adds an arc from place `p` to transition `t`: its weight is added to that of the arcs that
+    /// join them already. A refusal leaves the net unchanged.
     pub fn add_input(&mut self, p: usize, t: usize, weight: u64) -> Result<(), NoMemory>
         requires place { p < (net_of self.old).places }
         requires transition { t < (net_of self.old).transitions }
@@ -98,8 +108,8 @@ impl FlatNet {
         Ok(())
     }
 
-    /// Adds an arc from transition `t` to place `p`: its weight is added to that of the arcs that join
-    /// them already. A refusal leaves the net unchanged.
+    /// Adds an arc from transition `t` to place `p`: its weight is added to that of the arcs that
+    /// join them already. A refusal leaves the net unchanged.
     pub fn add_output(&mut self, t: usize, p: usize, weight: u64) -> Result<(), NoMemory>
         requires place { p < (net_of self.old).places }
         requires transition { t < (net_of self.old).transitions }
@@ -185,7 +195,7 @@ impl FlatNet {
     pub fn inputs(&self, t: usize) -> &[WeightedPlace]
         requires { t < (net_of self.now).transitions }
         ensures value { result.now ≡ (transition_at self.now t).inputs }
-        ensures lists { Lists (net_of self.now).places (λ p. (net_of self.now).pre p t) result.now }
+        ensures lists { let net = net_of self.now in Lists net.places (λ p. net.pre p t) result.now }
         ensures narrow { All (λ entry. entry.weight < 2 ^ 80) result.now }
     {
         self.transitions[t].inputs.as_slice()
@@ -195,7 +205,7 @@ impl FlatNet {
     pub fn outputs(&self, t: usize) -> &[WeightedPlace]
         requires { t < (net_of self.now).transitions }
         ensures value { result.now ≡ (transition_at self.now t).outputs }
-        ensures lists { Lists (net_of self.now).places (λ p. (net_of self.now).post p t) result.now }
+        ensures lists { let net = net_of self.now in Lists net.places (λ p. net.post p t) result.now }
         ensures narrow { All (λ entry. entry.weight < 2 ^ 80) result.now }
     {
         self.transitions[t].outputs.as_slice()

@@ -1,5 +1,5 @@
-//! The values that every other crate speaks of: texts, lists and documents, each seen by contracts as
-//! the plain list or record that it stands for.
+//! The values that every other crate speaks of: texts, lists, documents, nets, markings, vectors and
+//! place sets, each seen by contracts as the plain list or record that it stands for.
 #![tactic(auto)]
 
 mod column;
@@ -17,11 +17,11 @@ mod text;
 mod token_game;
 mod vector;
 
-pub use column::{Column, WeightedPlace};
+pub use column::WeightedPlace;
 pub use document::{
     ArcNode, Document, Item, Items, NetTree, PageNode, PlaceNode, RefNode, TransitionNode,
 };
-pub use flat_net::{FlatNet, FlatPlace, FlatTransition};
+pub use flat_net::FlatNet;
 pub use list::{CopyList, List};
 pub use marking::Marking;
 pub use no_memory::NoMemory;

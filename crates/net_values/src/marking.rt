@@ -1,5 +1,6 @@
-ghost use Rattle.std.specs.Prelude.{◌≡◌, ℕ, ◌+◌, ◌<◌, ◌≤◌, ◌^◌, ◌≤ℤ◌, pos, IfOk, All, length, map, slice_index};
-ghost use Rattle.net_values.specs.Columns.{weight_at};
+ghost use Rattle.std.specs.Prelude.{◌≡◌, ℕ, ◌+◌, ◌<◌, ◌≤◌, ◌^◌, ◌≤ℤ◌, pos};
+ghost use Rattle.std.specs.Prelude.{IfOk, All, length, map, slice_index};
+ghost use Rattle.net_values.specs.Columns.{LeftOf, GivenTo, weight_at};
 ghost use Rattle.net_values.specs.FlatNets.{initial_marking};
 ghost use Rattle.net_values.specs.Vectors.{positive_part};
 
@@ -9,7 +10,8 @@ use crate::no_memory::NoMemory;
 use std::alloc::Global;
 use std::marker::Model;
 
-/// A number of tokens per place, from 0 to 2^127 - 1. Contracts see it as the list of these numbers.
+/// A number of tokens per place, from 0 to 2^127 - 1. Contracts see it as the list of these
+/// numbers.
 #[derive(Drop)]
 pub struct Marking {
     counts: Vec<u128>,
@@ -78,7 +80,7 @@ impl Marking {
         requires within { All (λ entry. entry.place < length self.old) entries.now }
         requires enough { (p : ℕ) → weight_at entries.now p ≤ slice_index self.old p }
         ensures size { length self.new ≡ length self.old }
-        ensures taken { (p : ℕ) → slice_index self.new p + weight_at entries.now p ≡ slice_index self.old p }
+        ensures taken { LeftOf self.old entries.now self.new }
     {
         for entry in entries {
             self.counts[entry.place] -= entry.weight;
@@ -90,7 +92,7 @@ impl Marking {
         requires within { All (λ entry. entry.place < length self.old) entries.now }
         requires narrow { (p : ℕ) → slice_index self.old p + weight_at entries.now p < 2 ^ 127 }
         ensures size { length self.new ≡ length self.old }
-        ensures put { (p : ℕ) → slice_index self.new p ≡ slice_index self.old p + weight_at entries.now p }
+        ensures given { GivenTo self.old entries.now self.new }
     {
         for entry in entries {
             self.counts[entry.place] += entry.weight;

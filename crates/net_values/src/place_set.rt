@@ -1,4 +1,5 @@
-ghost use Rattle.std.specs.Prelude.{◌≡◌, ◌<◌, ◌≤◌, ◌↔◌, IsTrue, IfOk, length, replicate, slice_set, true, false};
+ghost use Rattle.std.specs.Prelude.{◌≡◌, ◌<◌, ◌≤◌, ◌↔◌, IsTrue, IfOk, true, false};
+ghost use Rattle.std.specs.Prelude.{length, replicate, slice_set};
 ghost use Rattle.std.proofs.Common.{rules};
 ghost use Rattle.std.specs.Cmp.{partial_order_from_own_ties};
 ghost use Rattle.std.specs.Cmp.Lexicographic.{slice_cmp};
@@ -11,8 +12,8 @@ use std::alloc::Global;
 use std::cmp::Ordering;
 use std::marker::Model;
 
-/// A set of place numbers below a fixed size. Contracts see it as the list of truth values that tell for
-/// each place whether it is in.
+/// A set of place numbers below a fixed size. Contracts see it as the list of truth values that tell
+/// for each place whether it is in.
 #[derive(Drop)]
 pub struct PlaceSet {
     members: Vec<bool>,
@@ -105,7 +106,7 @@ impl PartialEq for PlaceSet {
     ghost laws = { Prim.search (comparing, rules) };
 
     fn eq(&self, other: &PlaceSet) -> bool {
-        self.members.cmp(&other.members).is_eq()
+        self.cmp(other).is_eq()
     }
 }
 

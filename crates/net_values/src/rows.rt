@@ -1,8 +1,9 @@
-ghost use Rattle.std.specs.Prelude.{◌≡◌, [], ◌∷◌, ◌++◌, ◌<◌, Some, All, OnOk, OnErr, length, take, remove, slice_get};
+ghost use Rattle.std.specs.Prelude.{◌≡◌, [], ◌∷◌, ◌++◌, ◌<◌, Some, All, OnOk, OnErr};
+ghost use Rattle.std.specs.Prelude.{length, take, remove, slice_get};
 ghost use Rattle.std.specs.Cmp.Lexicographic.{slice_cmp};
 ghost use Rattle.std.specs.List.Sorted.{IsPermutation, IsSorted};
 ghost use Rattle.std.specs.Ordering.{nat_cmp};
-ghost use Rattle.net_values.specs.TheList.{HaveOneLength};
+ghost use Rattle.net_values.specs.TheList.{AreApart, HaveOneLength, IsStrictlyAscending};
 
 use crate::no_memory::NoMemory;
 use crate::vector::Vector;
@@ -90,6 +91,7 @@ impl Rows {
     pub fn sort(&mut self)
         ensures same { IsPermutation self.old self.new }
         ensures sorted { IsSorted (slice_cmp nat_cmp) self.new }
+        ensures strict { AreApart self.old → IsStrictlyAscending (slice_cmp nat_cmp) self.new }
     {
         self.rows.sort_unstable();
     }

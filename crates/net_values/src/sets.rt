@@ -1,8 +1,9 @@
-ghost use Rattle.std.specs.Prelude.{◌≡◌, [], ◌∷◌, ◌++◌, ◌<◌, Some, All, OnOk, OnErr, length, take, remove, slice_get};
+ghost use Rattle.std.specs.Prelude.{◌≡◌, [], ◌∷◌, ◌++◌, ◌<◌, Some, All, OnOk, OnErr};
+ghost use Rattle.std.specs.Prelude.{length, take, remove, slice_get};
 ghost use Rattle.std.specs.Cmp.Lexicographic.{slice_cmp};
 ghost use Rattle.std.specs.List.Sorted.{IsPermutation, IsSorted};
 ghost use Rattle.std.specs.Ordering.{bool_cmp};
-ghost use Rattle.net_values.specs.TheList.{HaveOneLength};
+ghost use Rattle.net_values.specs.TheList.{AreApart, HaveOneLength, IsStrictlyAscending};
 
 use crate::no_memory::NoMemory;
 use crate::place_set::PlaceSet;
@@ -86,10 +87,12 @@ impl Sets {
         self.sets.truncate(len);
     }
 
-    /// Puts the sets in ascending lexicographic order, each compared as its list of 0 and 1. It takes no memory.
+    /// Puts the sets in ascending lexicographic order, each compared as its list of 0 and 1. It
+    /// takes no memory.
     pub fn sort(&mut self)
         ensures same { IsPermutation self.old self.new }
         ensures sorted { IsSorted (slice_cmp bool_cmp) self.new }
+        ensures strict { AreApart self.old → IsStrictlyAscending (slice_cmp bool_cmp) self.new }
     {
         self.sets.sort_unstable();
     }

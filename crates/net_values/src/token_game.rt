@@ -4,8 +4,8 @@ use crate::marking::Marking;
 /// The largest number of tokens that a place may have, 2^127 - 1.
 const MOST_TOKENS: u128 = i128::MAX as u128;
 
-/// Why a transition doesn't fire: a place has fewer tokens than the transition takes, or would have more
-/// than 2^127 - 1. The lowest such place is told.
+/// Why a transition doesn't fire: a place has fewer tokens than the transition takes, or would have
+/// more than 2^127 - 1. The lowest such place is told.
 #[derive(Clone, Copy, Debug, PartialEq, Eq)]
 pub enum FireFault {
     NotEnabled(usize),
@@ -13,17 +13,20 @@ pub enum FireFault {
 }
 
 impl FlatNet {
-    ghost use Rattle.std.specs.Prelude.{◌≡◌, ◌<◌, IfErr, OnErr, OnOk, MatchOption, length, slice_index};
+    ghost use Rattle.std.specs.Prelude.{◌≡◌, ◌<◌, IfErr, OnErr, OnOk, MatchOption};
+    ghost use Rattle.std.specs.Prelude.{length, slice_index};
     ghost use Rattle.net_values.specs.FlatNets.{net_of};
-    ghost use Rattle.net_values.specs.TokenGame.{IsEnabled, IsLowest, Lacks, Overflows, NoneOverflows, Fires, FailsToFire};
+    ghost use Rattle.net_values.specs.TokenGame.{IsEnabled, Lacks, Overflows, NoneOverflows};
+    ghost use Rattle.net_values.specs.TokenGame.{IsLowest, Fires, FailsToFire};
 
     /// Fires transition `t` at a marking (ISO/IEC 15909-1). A refusal leaves the marking unchanged:
-    /// first `NotEnabled` with the lowest place that has fewer tokens than `t` takes, then `WideMarking`
-    /// with the lowest place that would have more than 2^127 - 1. It takes no memory.
+    /// first `NotEnabled` with the lowest place that has fewer tokens than `t` takes, then
+    /// `WideMarking` with the lowest place that would have more than 2^127 - 1. It takes no memory.
     pub fn fire(&self, marking: &mut Marking, t: usize) -> Result<(), FireFault>
         requires places { length marking.old ≡ (net_of self.now).places }
         requires transition { t < (net_of self.now).transitions }
-        ensures ok { OnOk result (Fires (net_of self.now) (slice_index marking.old) t (slice_index marking.new)) }
+        ensures ok { OnOk result
+            (Fires (net_of self.now) (slice_index marking.old) t (slice_index marking.new)) }
         ensures fault { IfErr result (FailsToFire (net_of self.now) (slice_index marking.old) t) }
         ensures unchanged { OnErr result (marking.new ≡ marking.old) }
         ensures places { length marking.new ≡ length marking.old }

@@ -1,5 +1,5 @@
 use Rattle.std.proofs.Common.{◌≡◌, length, take}
-use Rattle.net_values.proofs.TokenCounts.{GivenTo}
+use Rattle.net_values.specs.Columns.{GivenTo}
 use Rattle.net_values.proofs.marking.Marking.put.Given as goal
 
 abbrev pub invariant-loop-entry : goal.invariant-loop-entry

@@ -1,5 +1,5 @@
 use Rattle.std.proofs.Common.{◌≡◌, length, take}
-use Rattle.net_values.proofs.TokenCounts.{LeftOf}
+use Rattle.net_values.specs.Columns.{LeftOf}
 use Rattle.net_values.proofs.marking.Marking.take.Given as goal
 
 abbrev pub invariant-loop-entry : goal.invariant-loop-entry

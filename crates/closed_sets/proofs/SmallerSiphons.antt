@@ -1,0 +1,74 @@
+-- A smaller nonempty siphon in a set lacks one of its places, and then lies in the greatest siphon of the
+-- set without that place. So a nonempty siphon is minimal exactly where each of these is empty.
+use Rattle.std.proofs.Common.{◌≡◌, ◌≢◌, ◌↔◌, sym, subst, ◌∙◌, ℕ, ◌<◌, List, Bool, false, IsTrue, length, set, not, inl, inr, arith}
+use Rattle.std.proofs.lemmas.Bool.{cases_lt, cases_eq}
+use Rattle.std.proofs.lemmas.List.{get_or_past, get_or-set_same, get_or-set_other}
+use Rattle.net_values.specs.Net.{Net}
+use Rattle.net_values.specs.PlaceSets.{has, IsEmpty}
+use Rattle.closed_sets.specs.ClosedSets.{any_below, IsSiphon, IsWithin, IsNonempty, IsGreatestSiphon, IsMinimalSiphon, HasSiphonWithout}
+use Rattle.closed_sets.proofs.Below.{cases_bool, apart, not_true, not_false, any_from, none_at}
+
+-- a set that isn't empty has a place
+pub nonempty_from : (net : Net) (members : List Bool) → length members ≡ net.places → (IsEmpty members → ⊥) → IsNonempty net (has members)
+nonempty_from net members size some =
+    elim (cases_bool (any_below net.places (has members))) [
+      | inl found ↦ found
+      | inr none ↦ absurd (some (λ p. elim (cases_lt p net.places) [
+        | inl below ↦ none_at net.places (has members) none p below
+        | inr past ↦ get_or_past members p false (omega arith)
+      ]))
+    ]
+
+pub nonempty_not : (net : Net) (S : ℕ → Bool) → ((p : ℕ) → S p ≡ false) → IsNonempty net S → ⊥
+nonempty_not net S empty some = let at = any_from net.places S some in apart (S at.0) at.2 (empty at.0)
+
+module _ (net : Net) (members : List Bool) (p : ℕ) (size : length members ≡ net.places) (below : p < net.places) where
+  abbrev rest : ℕ → Bool
+  rest = has (set members p false)
+
+  left_out : rest p ≡ false
+  left_out = get_or-set_same members p false false (omega arith)
+
+  kept : (q : ℕ) → q ≢ p → rest q ≡ has members q
+  kept q other = get_or-set_other members p q false false other
+
+  pub without_exact : (found : List Bool) (empty : Bool) → length found ≡ net.places → IsGreatestSiphon net rest (has found) → IsTrue empty ↔ IsEmpty found → IsTrue (not empty) ↔ HasSiphonWithout net (has members) p
+  without_exact found empty size' greatest decides = (
+    λ filled. (
+      has found,
+      greatest.siphon,
+      nonempty_from net found size' (λ none. apart empty (decides.1 none) (not_false empty filled)),
+      λ q here member. elim (cases_eq q p) [
+        | inl same ↦ absurd (apart (rest p) (subst (λ x. IsTrue (rest x)) same (greatest.within q here member)) left_out)
+        | inr other ↦ sym (kept q other) ∙ greatest.within q here member
+      ],
+      not_true (has found p) (elim (cases_bool (has found p)) [ inl member ↦ absurd (apart (rest p) (greatest.within p below member) left_out) | inr none ↦ none ]),
+    ),
+    λ smaller.
+        let R = smaller.0 in
+        let inside : IsWithin net R rest =
+        λ q here member. elim (cases_eq q p) [
+          | inl same ↦ absurd (apart (R p) (subst (λ x. IsTrue (R x)) same member) (not_false (R p) smaller.4))
+          | inr other ↦ kept q other ∙ smaller.3 q here member
+        ] in
+        let at = any_from net.places R smaller.2 in
+        not_true empty (elim (cases_bool empty) [
+          | inl none ↦ absurd (apart (has found at.0) (greatest.greatest R smaller.1 inside at.0 at.1 at.2) (decides.0 none at.0))
+          | inr filled ↦ filled
+        ]),
+  )
+
+pub minimal_from : (net : Net) (S : ℕ → Bool) → IsSiphon net S → IsNonempty net S → ((p : ℕ) → p < net.places → IsTrue (S p) → HasSiphonWithout net S p → ⊥) → IsMinimalSiphon net S
+minimal_from net S siphon nonempty none = record {
+  siphon = siphon;
+  nonempty = nonempty;
+  least = λ R smaller some within p below member. elim (cases_bool (R p)) [
+    | inl has_it ↦ has_it
+    | inr lacks ↦ absurd (none p below member (R, smaller, some, within, not_true (R p) lacks))
+  ];
+}
+
+-- a minimal siphon has no smaller one
+pub minimal_without : (net : Net) (S : ℕ → Bool) (p : ℕ) → p < net.places → IsTrue (S p) → HasSiphonWithout net S p → IsMinimalSiphon net S → ⊥
+minimal_without net S p below member smaller minimal =
+    apart (smaller.0 p) (minimal.least smaller.0 smaller.1 smaller.2 smaller.3 p below member) (not_false (smaller.0 p) smaller.4)

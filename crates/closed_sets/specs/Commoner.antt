@@ -1,0 +1,34 @@
+-- Commoner's condition (M. Hack, Analysis of production schemata by Petri nets, MIT, 1972; T. Murata, Petri
+-- nets: properties, analysis and applications, Proceedings of the IEEE 77, 1989).
+use Rattle.std.specs.Prelude.{ℕ, ◌<◌, ◌≤◌, ◌==◌, Bool, IsTrue, ◌&&◌, nat_lt, List}
+use Rattle.net_values.specs.Net.{Net}
+use Rattle.net_values.specs.TokenGame.{Reach, IsReachable, IsDead}
+use Rattle.closed_sets.specs.ClosedSets.{any_below, IsSiphon, IsTrap, IsWithin, IsNonempty}
+
+-- some place of the set has a token
+abbrev pub IsMarked : Net → (ℕ → ℕ) → (ℕ → Bool) → Type 0
+IsMarked net M S = IsTrue (any_below net.places (λ p. S p && nat_lt 0 (M p)))
+
+-- each arc has the weight 1
+abbrev pub IsOrdinary : Net → Type 0
+IsOrdinary net = (p t : ℕ) → p < net.places → t < net.transitions → (net.pre p t ≤ 1) × (net.post p t ≤ 1)
+
+-- every nonempty siphon contains a trap that is marked at the initial marking
+abbrev pub MeetsCommoner : Net → Type 0
+MeetsCommoner net = (S : ℕ → Bool) → IsSiphon net S → IsNonempty net S → (Q : ℕ → Bool) × IsTrap net Q × IsWithin net Q S × IsMarked net net.initial Q
+
+-- a trap that is marked stays marked along any firing list
+abbrev pub TrapsStayMarked : Net → Type 0
+TrapsStayMarked net = (S : ℕ → Bool) (M M' : ℕ → ℕ) (ts : List ℕ) → IsTrap net S → IsMarked net M S → Reach net M ts M' → IsMarked net M' S
+
+-- the places without a token
+abbrev pub empty_places : (ℕ → ℕ) → ℕ → Bool
+empty_places M p = M p == 0
+
+-- at a dead marking of an ordinary net with a transition the empty places are a nonempty siphon
+abbrev pub DeadEmptiesASiphon : Net → Type 0
+DeadEmptiesASiphon net = (M : ℕ → ℕ) → IsOrdinary net → 0 < net.transitions → IsDead net M → IsSiphon net (empty_places M) × IsNonempty net (empty_places M)
+
+-- Commoner's condition excludes every dead reachable marking of an ordinary net with a transition
+abbrev pub CommonerExcludesDead : Net → Type 0
+CommonerExcludesDead net = (M : ℕ → ℕ) → IsOrdinary net → 0 < net.transitions → MeetsCommoner net → IsReachable net M → IsDead net M → ⊥

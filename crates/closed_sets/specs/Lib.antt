@@ -1,0 +1,6 @@
+-- The definitions of closed sets, which the crates above cite.
+pub mod ClosedSets
+pub mod Growth
+pub mod Commoner
+pub mod Kinds
+pub mod Passes

@@ -1,0 +1,31 @@
+ghost use Rattle.std.specs.Prelude.{◌↔◌, ◌||◌, ℕ, Bool};
+ghost use Rattle.net_values.specs.Net.{Net, reversed};
+ghost use Rattle.closed_sets.specs.ClosedSets.{IsSiphon, IsTrap};
+ghost use Rattle.closed_sets.specs.Commoner.{TrapsStayMarked, DeadEmptiesASiphon, CommonerExcludesDead};
+
+/// The union of two siphons is a siphon, so each set has a greatest siphon in it (Murata 1989).
+pub fn unions_of_siphons_are_siphons()
+    ensures { (net : Net) (S R : ℕ → Bool) → IsSiphon net S → IsSiphon net R → IsSiphon net (λ p. S p || R p) }
+{}
+
+/// Traps are the siphons of the net with every arc turned round.
+pub fn traps_are_siphons_reversed()
+    ensures { (net : Net) (S : ℕ → Bool) → IsTrap net S ↔ IsSiphon (reversed net) S }
+{}
+
+/// A trap that is marked stays marked along any firing list (Murata 1989).
+pub fn traps_stay_marked()
+    ensures { (net : Net) → TrapsStayMarked net }
+{}
+
+/// At a dead marking of an ordinary net with a transition the empty places are a nonempty siphon
+/// (Murata 1989).
+pub fn dead_markings_empty_a_siphon()
+    ensures { (net : Net) → DeadEmptiesASiphon net }
+{}
+
+/// Commoner's condition excludes every dead reachable marking of an ordinary net with a transition
+/// (Murata 1989).
+pub fn commoner_excludes_dead_markings()
+    ensures { (net : Net) → CommonerExcludesDead net }
+{}

@@ -1,0 +1,19 @@
+//! Siphons and traps of a net: whether a set of places is one, whether it is minimal, and the greatest one
+//! in a set, each exactly and without taking memory.
+#![tactic(auto)]
+
+mod closed;
+mod greatest;
+mod kind;
+mod laws;
+mod minimal;
+#[cfg(test)]
+mod tests;
+
+pub use closed::{first_open_transition, is_siphon, is_trap};
+pub use greatest::{greatest_siphon, greatest_trap};
+pub use laws::{
+    commoner_excludes_dead_markings, dead_markings_empty_a_siphon, traps_are_siphons_reversed,
+    traps_stay_marked, unions_of_siphons_are_siphons,
+};
+pub use minimal::is_minimal_siphon;

@@ -1,0 +1,11 @@
+pub mod Steps
+pub mod Numbers
+pub mod PlainIds
+pub mod Labels
+pub mod Spellings
+pub mod Elements
+pub mod Sequences
+pub mod Pages
+pub mod Documents
+pub mod Values
+pub mod Plainness

@@ -1,0 +1,13 @@
+-- Reading gives what is spelled: for each part a law that what is spelled so is read so, whatever follows,
+-- and a law that what is read is spelled so.
+pub mod RunLaws
+pub mod PartLaws
+pub mod ReferenceLaws
+pub mod ValueLaws
+pub mod SettingLaws
+pub mod TextLaws
+pub mod AttributeLaws
+pub mod ShapeLaws
+pub mod TagLaws
+pub mod MarkupLaws
+pub mod TokenLaws

@@ -1,0 +1,6 @@
+ghost use Rattle.pnml_grammar.specs.Tokens.{HasOneToken};
+
+/// At an offset at most one token stands, and its end is determined.
+pub fn one_token()
+    ensures { HasOneToken }
+{}

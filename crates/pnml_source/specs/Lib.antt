@@ -1,0 +1,4 @@
+-- The definitions that contracts over sources and sinks cite.
+pub mod Causes
+pub mod Streams
+pub mod Memory

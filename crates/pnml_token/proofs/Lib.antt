@@ -1,0 +1,11 @@
+-- Lemmas for the readers' code.
+pub mod Prefixes
+pub mod Places
+pub mod Texts
+pub mod Settings
+pub mod AttributeLists
+pub mod NamesSeen
+pub mod Cuts
+pub mod PieceLaws
+pub mod LegalTexts
+pub mod Windows

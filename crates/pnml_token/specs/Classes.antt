@@ -1,0 +1,18 @@
+-- The bytes of each class of runs.
+use Rattle.std.specs.Prelude.{ℕ, Bool, not, ◌==◌, ◌||◌, ◌&&◌}
+use Rattle.pnml_grammar.specs.Characters.{is_space}
+use Rattle.pnml_grammar.specs.Names.{is_name_byte}
+use Rattle.pnml_grammar.specs.Attributes.{is_value_byte}
+use Rattle.pnml_grammar.specs.Tokens.{is_text_byte}
+use Rattle.pnml_grammar.specs.Resolving.{is_reference_byte}
+use Rattle.pnml_token.specs.declared.class.Class.{Class}
+use Rattle.pnml_token.specs.declared.class.Class.TheVariants.{Space, Name, Value, Text, Reference, Line, Plain}
+
+abbrev pub in_class : Class → ℕ → Bool
+in_class Space byte = is_space byte
+in_class Name byte = is_name_byte byte
+in_class (Value quote) byte = is_value_byte quote byte
+in_class Text byte = is_text_byte byte
+in_class Reference byte = is_reference_byte byte
+in_class Line byte = not (byte == 13)
+in_class (Plain spaces) byte = not (byte == 13) && not (byte == 38) && not (spaces && (byte == 9 || byte == 10))

@@ -1,0 +1,6 @@
+-- What the readers of pnml_token say of their answers.
+pub mod Classes
+pub mod Gives
+pub mod Views
+pub mod Pieces
+pub mod Steps

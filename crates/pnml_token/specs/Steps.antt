@@ -1,0 +1,36 @@
+-- What a step or a fault says.
+use Rattle.std.specs.Prelude.{◌≡◌, ℕ, List, length, Result, Ok, Err}
+use Rattle.pnml_grammar.specs.declared.token.Token.{Token}
+use Rattle.pnml_grammar.specs.Tokens.{Stands}
+use Rattle.pnml_token.specs.declared.miss.Miss.{Miss}
+use Rattle.pnml_token.specs.declared.miss.Miss.TheVariants as misses
+use Rattle.pnml_token.specs.declared.miss.Miss.TheVariants.{NoToken}
+use Rattle.pnml_token.specs.declared.step.Step.{Step}
+use Rattle.pnml_token.specs.declared.step.Step.TheVariants as steps
+use Rattle.pnml_token.specs.declared.step.TokenFault.{TokenFault}
+use Rattle.pnml_token.specs.declared.step.TokenFault.TheVariants.{BadToken, NoMemory}
+
+-- of a token and its end
+abbrev pub IfToken : Step → (Token → ℕ → Type 0) → Type 0
+IfToken (steps.Token token e) P = P token e
+IfToken steps.End P = Unit
+
+-- where the step is the end
+abbrev pub IfEnd : Step → Type 0 → Type 0
+IfEnd (steps.Token token e) P = Unit
+IfEnd steps.End P = P
+
+-- of the offset of a bad token
+abbrev pub IfBadToken : TokenFault → (ℕ → Type 0) → Type 0
+IfBadToken (BadToken at) P = P at
+IfBadToken NoMemory P = Unit
+
+-- the answer is the end
+abbrev pub IsEndIfAny : Result Step TokenFault → Type 0
+IsEndIfAny r = r ≡ Ok steps.End
+
+-- the token that stands at the front of the bytes, with the length of its spelling; or none does
+abbrev pub Finds : Result (Token × ℕ) Miss → List ℕ → Type 0
+Finds (Ok found) bytes = (spelling : List ℕ) × (rest : List ℕ) × Stands bytes found.0 spelling rest × (found.1 ≡ length spelling)
+Finds (Err NoToken) bytes = (token : Token) (spelling rest : List ℕ) → Stands bytes token spelling rest → ⊥
+Finds (Err misses.NoMemory) bytes = Unit

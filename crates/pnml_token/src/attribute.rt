@@ -1,0 +1,46 @@
+ghost use Rattle.std.specs.Prelude.{◌≡◌, true};
+ghost use Rattle.pnml_grammar.specs.Reading.{attribute_of, attributes_of, distinct_attributes_of};
+ghost use Rattle.pnml_token.specs.Gives.{Gives};
+ghost use Rattle.pnml_token.specs.Views.{view, views};
+
+use crate::distinct::are_distinct;
+use crate::miss::Miss;
+use crate::setting::Setting;
+use crate::text::text_of;
+use crate::value::value_of;
+use pnml_grammar::{Attribute, Attributes};
+use std::alloc::Global;
+
+/// The attributes that are written so, whose names are distinct.
+#[tactic(auto, unfolding(pnml_grammar::specs::Reading::distinct_attributes_of))]
+pub(crate) fn distinct_attributes_of(
+    alloc: Global,
+    settings: &[Setting<'_>],
+) -> Result<Attributes, Miss>
+    ensures { Gives (λ attributes. attributes) result (distinct_attributes_of (views settings.now)) }
+{
+    if are_distinct(alloc, settings)? {
+        attributes_of(alloc, settings)
+    } else {
+        Err(Miss::NoToken)
+    }
+}
+
+fn attributes_of(alloc: Global, settings: &[Setting<'_>]) -> Result<Attributes, Miss>
+    ensures { Gives (λ attributes. attributes) result (attributes_of (views settings.now)) }
+{
+    let mut attributes = Attributes::new(alloc);
+    for setting in settings {
+        attributes.push(attribute_of(alloc, setting)?)?;
+    }
+    Ok(attributes)
+}
+
+#[tactic(auto, unfolding(pnml_grammar::specs::Reading::attribute_of))]
+fn attribute_of(alloc: Global, setting: &Setting<'_>) -> Result<Attribute, Miss>
+    ensures { Gives (λ attribute. attribute) result (attribute_of (view setting.now)) }
+{
+    let name = text_of(alloc, setting.name)?;
+    let value = value_of(alloc, true, setting.body)?;
+    Ok(Attribute { name, value })
+}

@@ -1,0 +1,19 @@
+ghost use Rattle.std.specs.Prelude.{◌≡◌, option_map, is_some};
+ghost use Rattle.pnml_grammar.specs.Runs.{until};
+
+use memchr::memmem;
+
+/// What stands before the first place of the part, and behind that.
+pub(crate) fn until<'a>(part: &[u8], bytes: &'a [u8]) -> Option<(&'a [u8], &'a [u8])>
+    ensures { option_map (λ x. (x.0.now, x.1.now)) result ≡ until part.now bytes.now }
+{
+    let place = memmem::find(bytes, part)?;
+    Some((&bytes[..place], &bytes[place + part.len()..]))
+}
+
+/// Whether the part stands anywhere in the bytes.
+pub(crate) fn contains(part: &[u8], bytes: &[u8]) -> bool
+    ensures { result ≡ is_some (until part.now bytes.now) }
+{
+    until(part, bytes).is_some()
+}

@@ -1,0 +1,102 @@
+ghost use Rattle.std.specs.Prelude.{◌≡◌, ◌⊎◌, []};
+ghost use Rattle.std.specs.Char.{digit_value};
+ghost use Rattle.pnml_grammar.specs.Resolving.{is_legal_character, character_numbered, number_behind, character_named, character_behind_number_sign, referenced};
+
+const GREATEST_CHARACTER: u32 = 0x10_FFFF;
+
+/// The character by what stands between `&` and `;` (XML 1.0, productions 66, CharRef, and 68, EntityRef).
+#[tactic(auto, unfolding(pnml_grammar::specs::Resolving::referenced))]
+pub(crate) fn referenced(body: &[u8]) -> Option<char>
+    ensures { result ≡ referenced body.now }
+{
+    match body {
+        [b'#', number @ ..] => behind_number_sign(number),
+        [_, ..] => named(body),
+        [] => None,
+    }
+}
+
+#[tactic(auto, unfolding(pnml_grammar::specs::Resolving::character_behind_number_sign))]
+fn behind_number_sign(number: &[u8]) -> Option<char>
+    ensures { result ≡ character_behind_number_sign number.now }
+{
+    match number {
+        [b'x', digits @ ..] => numbered(16, digits),
+        [_, ..] => numbered(10, number),
+        [] => None,
+    }
+}
+
+/// The five names of XML 1.0, section 4.6.
+#[tactic(auto, unfolding(pnml_grammar::specs::Resolving::character_named))]
+fn named(name: &[u8]) -> Option<char>
+    ensures { result ≡ character_named name.now }
+{
+    if name == b"lt".as_slice() {
+        Some('<')
+    } else if name == b"gt".as_slice() {
+        Some('>')
+    } else if name == b"amp".as_slice() {
+        Some('&')
+    } else if name == b"apos".as_slice() {
+        Some('\'')
+    } else if name == b"quot".as_slice() {
+        Some('"')
+    } else {
+        None
+    }
+}
+
+/// The legal character whose number the digits write. A number above all characters ends the reading.
+#[tactic(auto, unfolding(pnml_grammar::specs::Resolving::character_numbered))]
+fn numbered(base: u32, digits: &[u8]) -> Option<char>
+    requires { (base ≡ 10) ⊎ (base ≡ 16) }
+    ensures { result ≡ character_numbered base digits.now }
+{
+    if digits.is_empty() {
+        return None;
+    }
+    number_behind(base, digits)
+}
+
+fn number_behind(base: u32, digits: &[u8]) -> Option<char>
+    requires { (base ≡ 10) ⊎ (base ≡ 16) }
+    ensures { result ≡ number_behind base 0 digits.now }
+{
+    let mut number = 0;
+    for digit in digits {
+        let value = digit_value(*digit);
+        if value >= base || number * base + value > GREATEST_CHARACTER {
+            return None;
+        }
+        number = number * base + value;
+    }
+    character(number)
+}
+
+fn character(number: u32) -> Option<char>
+    ensures { result ≡ number_behind 10 number [] }
+{
+    match char::from_u32(number) {
+        Some(character) if is_legal(character) => Some(character),
+        _ => None,
+    }
+}
+
+fn digit_value(digit: u8) -> u32
+    ensures { result ≡ digit_value digit }
+{
+    match digit {
+        b'0'..=b'9' => (digit - b'0') as u32,
+        b'A'..=b'Z' => (digit - b'A') as u32 + 10,
+        b'a'..=b'z' => (digit - b'a') as u32 + 10,
+        _ => 36,
+    }
+}
+
+/// A legal character (XML 1.0, production 2, Char).
+pub(crate) fn is_legal(character: char) -> bool
+    ensures { result ≡ is_legal_character character }
+{
+    matches!(character, '\t' | '\n' | '\r' | ' '..='\u{D7FF}' | '\u{E000}'..='\u{FFFD}' | '\u{10000}'..='\u{10FFFF}')
+}

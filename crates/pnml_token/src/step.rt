@@ -1,0 +1,79 @@
+ghost use Rattle.std.specs.Prelude.{◌≡◌, ◌+◌, ◌<◌, ◌≤◌, ℕ, min, length, IfOk, IfErr};
+ghost use Rattle.pnml_grammar.specs.declared.token.Token.{Token as TheToken};
+ghost use Rattle.pnml_grammar.specs.Tokens.{TokenAt, spelling_limit};
+ghost use Rattle.pnml_token.specs.Steps.{IfToken, IfEnd, IfBadToken, IsEndIfAny, Finds};
+
+use crate::legal::SPELLING_LIMIT;
+use crate::miss::Miss;
+use crate::shape::token_of;
+use pnml_grammar::Token;
+use std::alloc::Global;
+
+/// What stands at an offset.
+#[derive(Drop)]
+pub enum Step {
+    /// A token, and the offset of its end.
+    Token(Token, usize),
+    /// The end of the input.
+    End,
+}
+
+/// Why no step is answered.
+#[derive(Clone, Copy, Debug)]
+pub enum TokenFault {
+    /// Bytes stand at this offset, and no token does.
+    BadToken(usize),
+    /// The system refused memory.
+    NoMemory,
+}
+
+/// The token that stands at the offset `place` of the bytes, with the offset of its end; `Step::End` at
+/// their end.
+///
+/// `TokenFault::BadToken(place)` comes where bytes stand there and none of the spellings of at most 1,048,576
+/// bytes does. Tokens are those of XML 1.0 in a narrow profile: no document type, no entities but the five
+/// of its section 4.6, version 1.0 in UTF-8 alone.
+pub fn token_at(alloc: Global, bytes: &[u8], place: usize) -> Result<Step, TokenFault>
+    requires { place ≤ length bytes.now }
+    // A token that is answered stands there, and ends there; no other does, by pnml_grammar's one_token.
+    ensures token { IfOk result (λ step. IfToken step (λ token e. TokenAt bytes.now place token e)) }
+    // The end is answered just where it is.
+    ensures end { IfOk result (λ step. IfEnd step (place ≡ length bytes.now)) }
+    ensures at_end { place ≡ length bytes.now → IsEndIfAny result }
+    // Where a bad token is answered bytes stand, no token does, and the offset is the one asked for.
+    ensures bad { IfErr result (λ fault. IfBadToken fault (λ at. at ≡ place)) }
+    ensures bytes { IfErr result (λ fault. IfBadToken fault (λ at. place < length bytes.now)) }
+    ensures none { IfErr result (λ fault. IfBadToken fault (λ at.
+        (token : TheToken) (e : ℕ) → TokenAt bytes.now place token e → ⊥)) }
+{
+    let rest = &bytes[place..];
+    if rest.is_empty() {
+        return Ok(Step::End);
+    }
+    match token_within(alloc, rest) {
+        Ok((token, length)) => Ok(Step::Token(token, place + length)),
+        Err(Miss::NoToken) => Err(TokenFault::BadToken(place)),
+        Err(Miss::NoMemory) => Err(TokenFault::NoMemory),
+    }
+}
+
+/// The token at the front, and how many bytes spell it. No more bytes are looked at than tell it.
+fn token_within(alloc: Global, bytes: &[u8]) -> Result<(Token, usize), Miss>
+    requires { 0 < length bytes.now }
+    ensures { Finds result bytes.now }
+{
+    let window = &bytes[..window_length(bytes.len())];
+    let (token, rest) = token_of(alloc, window)?;
+    Ok((token, window.len() - rest.len()))
+}
+
+/// As many bytes as a spelling has at most, and one more, by which characters are seen to end.
+fn window_length(length: usize) -> usize
+    ensures { result ≡ min length (spelling_limit + 1) }
+{
+    if length <= SPELLING_LIMIT {
+        length
+    } else {
+        SPELLING_LIMIT + 1
+    }
+}

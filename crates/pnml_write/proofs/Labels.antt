@@ -1,0 +1,102 @@
+-- An element with children is a start tag, the children and an end tag, and each label has a child, its
+-- `text`. What remains is to regroup.
+use Rattle.std.proofs.Common.{◌≡◌, ◌≢◌, ℕ, ◌<◌, ◌^◌, length, arith, List, [], ◌∷◌, ◌++◌, refl, ap, ◌∙◌, append-nil, sym, Bool, true, false, Option, Some, None}
+use Rattle.std.specs.Prelude.{codes, decimal, nat_eq, is_some}
+use Rattle.std.proofs.lemmas.Fmt.{decimal_nonempty}
+use Rattle.std.proofs.lemmas.Bool.{ne_eqb, eq-eqb, both_ways, false≢true, eqb-true}
+use Rattle.std.proofs.lemmas.List.{nil_from_length}
+use Rattle.net_values.specs.Canon.{escaped, start_tag, end_tag, empty_tag, element, label, name_text, marking_text, weight_text}
+use Rattle.pnml_write.specs.Elements.{behind_attributes}
+use Rattle.pnml_write.proofs.Pieces.{around_value, two_and_three, some_behind}
+use Rattle.pnml_write.proofs.Runs.{escape_some}
+
+element_full : (name attributes children : List ℕ) → children ≢ [] → element name attributes children ≡ start_tag name attributes ++ children ++ end_tag name
+element_full name attributes [] some = absurd (some refl)
+element_full name attributes (byte ∷ bytes) some = refl
+
+label_full : (name value : List ℕ) → value ≢ [] → label name value ≡ start_tag name [] ++ start_tag (codes "text") [] ++ value ++ (end_tag (codes "text") ++ end_tag name)
+unfolding start_tag
+label_full name value some =
+    rw (element_full (codes "text") [] value some)
+    (around_value (start_tag name []) (start_tag (codes "text") []) value (end_tag (codes "text")) (end_tag name))
+
+-- what the test for an empty text says
+pub empty_text : (text copy : List ℕ) (empty : Bool) → copy ≡ text → empty ≡ nat_eq (length copy) 0 → empty ≡ true → text ≡ []
+empty_text text copy empty same is was = sym same ∙ nil_from_length copy (eqb-true (length copy) 0 (sym is ∙ was))
+
+pub some_text : (text copy : List ℕ) (empty : Bool) → copy ≡ text → empty ≡ nat_eq (length copy) 0 → empty ≡ false → text ≢ []
+some_text text copy empty same is not_empty e = both_ways empty not_empty (is ∙ ap (λ (t : List ℕ). nat_eq (length t) 0) (same ∙ e))
+
+-- the texts of the labels
+escaped_some : (value : List ℕ) → value ≢ [] → escaped value ≢ []
+unfolding escaped
+escaped_some [] some e = some refl
+escaped_some (byte ∷ bytes) some e = escape_some byte (escaped bytes) e
+
+pub name_full : (name : List ℕ) → name ≢ [] → codes "<name><text>" ++ escaped name ++ codes "</text></name>" ≡ label (codes "name") (escaped name)
+unfolding start_tag end_tag
+name_full name some = sym (label_full (codes "name") (escaped name) (escaped_some name some))
+
+pub name_empty : codes "<name><text/></name>" ≡ label (codes "name") (escaped [])
+unfolding start_tag end_tag empty_tag escaped
+name_empty = refl
+
+decimal_some : (n : ℕ) → n < 2 ^ 64 → decimal n ≢ []
+decimal_some n small e = omega (arith, decimal_nonempty n small, ap length e)
+
+pub marking_none : (n : ℕ) → n ≡ 0 → marking_text n ≡ []
+unfolding marking_text
+marking_none n e = rw (eq-eqb n 0 e) refl
+
+pub marking_full : (n : ℕ) → n < 2 ^ 64 → n ≢ 0 → codes "<initialMarking><text>" ++ decimal n ++ codes "</text></initialMarking>" ≡ marking_text n
+unfolding marking_text start_tag end_tag
+marking_full n small other =
+    rw (ne_eqb n 0 other) (sym (label_full (codes "initialMarking") (decimal n) (decimal_some n small)))
+
+pub weight_none : (n : ℕ) → n ≡ 1 → weight_text n ≡ []
+unfolding weight_text
+weight_none n e = rw (eq-eqb n 1 e) refl
+
+pub weight_full : (n : ℕ) → n < 2 ^ 64 → n ≢ 1 → codes "<inscription><text>" ++ decimal n ++ codes "</text></inscription>" ≡ weight_text n
+unfolding weight_text start_tag end_tag
+weight_full n small other =
+    rw (ne_eqb n 1 other) (sym (label_full (codes "inscription") (decimal n) (decimal_some n small)))
+
+-- ---- behind the attributes
+
+label_some : (value : List ℕ) → label (codes "name") value ≢ []
+unfolding start_tag empty_tag
+label_some [] e = cc
+label_some (byte ∷ bytes) e = cc
+
+pub name_some : (name : Option (List ℕ)) → true ≡ is_some name → name_text name ≢ []
+name_some None never e = false≢true (sym never)
+name_some (Some name) some e = label_some (escaped name) e
+
+pub marking_some : (n : ℕ) → n < 2 ^ 64 → n ≢ 0 → marking_text n ≢ []
+marking_some n small other e =
+    let opened : codes "<initialMarking><text>" ++ decimal n ++ codes "</text></initialMarking>" ≡ [] = marking_full n small other ∙ e in
+    cc
+
+pub weight_some : (n : ℕ) → n < 2 ^ 64 → n ≢ 1 → weight_text n ≢ []
+weight_some n small other e =
+    let opened : codes "<inscription><text>" ++ decimal n ++ codes "</text></inscription>" ≡ [] = weight_full n small other ∙ e in
+    cc
+
+pub behind_full : (children end : List ℕ) → children ≢ [] → codes ">" ++ children ++ end ≡ behind_attributes children end
+behind_full [] end some = absurd (some refl)
+behind_full (byte ∷ bytes) end some = refl
+
+-- an element is its name, its attributes and the rest
+pub element_parts : (name attributes children : List ℕ) → element name attributes children ≡ codes "<" ++ name ++ attributes ++ behind_attributes children (end_tag name)
+unfolding start_tag empty_tag
+element_parts name attributes [] = refl
+element_parts name attributes (byte ∷ bytes) =
+    ap (λ (t : List ℕ). 60 ∷ t) (two_and_three name attributes (codes ">") (byte ∷ bytes) (end_tag name))
+
+-- where no label stands behind the name, and where one does
+pub unlabelled : (name label end : List ℕ) → label ≡ [] → behind_attributes name end ≡ behind_attributes (name ++ label) end
+unlabelled name label end none = rw (none, append-nil) refl
+
+pub labelled : (name label end : List ℕ) → label ≢ [] → codes ">" ++ name ++ label ++ end ≡ behind_attributes (name ++ label) end
+labelled name label end some = behind_full (name ++ label) end (some_behind name label some)

@@ -1,0 +1,6 @@
+pub mod Pieces
+pub mod Runs
+pub mod Labels
+pub mod Shapes
+pub mod Sequences
+pub mod Frames

@@ -1,0 +1,5 @@
+-- The definitions of the search for siphons.
+pub mod Met
+pub mod Classes
+pub mod Faults
+pub mod Laws

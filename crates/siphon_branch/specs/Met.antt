@@ -1,0 +1,72 @@
+-- The sets that a search meets, as lists: each set is the list of truth values that tell for each place of
+-- the net whether it is in.
+use Rattle.std.specs.Prelude.{◌≡◌, ◌↔◌, ◌≤◌, ℕ, ◌+◌, List, Bool, ◌++◌, length, AllPairs, Any, Contains}
+use Rattle.net_values.specs.Net.{Net}
+use Rattle.net_values.specs.PlaceSets.{has}
+use Rattle.closed_sets.specs.ClosedSets.{IsSiphon, IsWithin, IsNonempty, IsMinimalSiphon}
+use Rattle.closed_sets.specs.Growth.{Belongs, GrowsWhole, IsGrown}
+
+-- a grown siphon of the net
+pub record IsGrownSet (net : Net) (set : List Bool) : Type 0 where
+  pub size : length set ≡ net.places
+  pub grown : IsGrown net (has set)
+
+-- a minimal siphon of the net
+pub record IsMinimalSet (net : Net) (set : List Bool) : Type 0 where
+  pub size : length set ≡ net.places
+  pub minimal : IsMinimalSiphon net (has set)
+
+-- no member stands twice
+abbrev pub AreDistinct : {X : Type 0} → List X → Type 0
+AreDistinct list = AllPairs (λ one later. one ≡ later → ⊥) list
+
+-- the net has at most this many grown siphons: they all stand in a list of this length
+pub record HasAtMostGrown (net : Net) (sets : ℕ) : Type 0 where
+  pub grown : List (List Bool)
+  pub few : length grown ≤ sets
+  pub every : (set : List Bool) → IsGrownSet net set → Contains grown set
+
+-- one more distinct grown siphons than the limit
+pub record PassesLimit (net : Net) (sets : ℕ) (carried : List (List Bool)) : Type 0 where
+  pub count : length carried ≡ sets + 1
+  pub distinct : AreDistinct carried
+  pub grown : (set : List Bool) → Contains carried set → IsGrownSet net set
+
+-- the list has exactly the sets with the property, each once
+pub record IsListOf (Property : List Bool → Type 0) (list : List (List Bool)) : Type 0 where
+  pub distinct : AreDistinct list
+  pub members : (set : List Bool) → (Contains list set) ↔ Property set
+
+-- exactly the sets with the property were appended, each once
+pub record Adds (Property : List Bool → Type 0) (old new : List (List Bool)) : Type 0 where
+  pub added : List (List Bool)
+  pub appended : new ≡ old ++ added
+  pub exact : IsListOf Property added
+
+-- sets with the property were appended, each once
+pub record AddsSome (Property : List Bool → Type 0) (old new : List (List Bool)) : Type 0 where
+  pub added : List (List Bool)
+  pub appended : new ≡ old ++ added
+  pub distinct : AreDistinct added
+  pub sound : (set : List Bool) → Contains added set → Property set
+
+-- a siphon of the class, whose contained set isn't empty, that is grown in it
+pub record IsGrownFrom (net : Net) (contains avoids set : List Bool) : Type 0 where
+  pub size : length set ≡ net.places
+  pub siphon : IsSiphon net (has set)
+  pub belongs : Belongs net (has contains) (has avoids) (has set)
+  pub grows : GrowsWhole net (has set) (has contains)
+
+-- all sets with the property were met, and there is room for them
+pub record Meets (Property : List Bool → Type 0) (limit : ℕ) (old new : List (List Bool)) : Type 0 where
+  pub adds : Adds Property old new
+  pub room : length new ≤ limit
+
+-- so many sets with the property were met that there is one more than the limit
+pub record Overruns (Property : List Bool → Type 0) (limit : ℕ) (old new : List (List Bool)) : Type 0 where
+  pub adds : AddsSome Property old new
+  pub count : length new ≡ limit + 1
+
+-- every nonempty siphon contains a listed set
+abbrev pub CoversSiphons : Net → List (List Bool) → Type 0
+CoversSiphons net list = (S : ℕ → Bool) → IsSiphon net S → IsNonempty net S → Any (λ set. IsWithin net (has set) S) list

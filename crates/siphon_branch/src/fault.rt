@@ -1,0 +1,38 @@
+ghost use Rattle.std.specs.Prelude.{◌≡◌};
+
+use net_values::{NoMemory, Sets};
+
+/// Why a search gives no list: want of memory, or the net has more grown siphons than the limit, of which
+/// one more than the limit are carried.
+#[derive(Drop)]
+pub enum SetFault {
+    NoMemory,
+    SetLimit(Sets),
+}
+
+impl From<NoMemory> for SetFault {
+    ghost use Rattle.siphon_branch.specs.declared.fault.SetFault.{SetFault};
+
+    ghost from_gives = { λ _ fault. fault ≡ SetFault.NoMemory };
+
+    fn from(_error: NoMemory) -> SetFault {
+        SetFault::NoMemory
+    }
+}
+
+/// Why a search stops before it has met all: want of memory, or one set more than the limit was met.
+#[derive(Clone, Copy)]
+pub(crate) enum Stop {
+    NoMemory,
+    SetLimit,
+}
+
+impl From<NoMemory> for Stop {
+    ghost use Rattle.siphon_branch.specs.declared.fault.Stop.{Stop};
+
+    ghost from_gives = { λ _ stop. stop ≡ Stop.NoMemory };
+
+    fn from(_error: NoMemory) -> Stop {
+        Stop::NoMemory
+    }
+}

@@ -1,0 +1,14 @@
+//! All minimal siphons of a net, by a search over classes of siphons that meets each grown siphon once.
+#![tactic(auto)]
+
+mod branch;
+mod fault;
+mod laws;
+mod list;
+mod search;
+#[cfg(test)]
+mod tests;
+
+pub use fault::SetFault;
+pub use laws::{live_classes_have_a_grown_siphon, minimal_siphons_are_grown};
+pub use list::minimal_siphons;

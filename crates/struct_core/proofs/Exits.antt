@@ -1,0 +1,181 @@
+-- The ways in which a run ends, one lemma each, over what the devices told: the facts of the last call are
+-- put beside the fields of the run that speak of its status, and the others are void.
+use Rattle.std.proofs.Common.{◌≡◌, ℕ, ◌≤◌, List, length, refl, sym, subst, arith, inl, inr, ◌⊎◌}
+use Rattle.std.proofs.KnownBytes.{Keeps-refl}
+use Rattle.std.specs.Io.KnownBytes.{Appends}
+use Rattle.pnml_source.specs.Causes.{Rose}
+use Rattle.pnml_source.specs.Streams.{AppendsFront, TakesExactly, IsWholeInput}
+use Rattle.struct_core.specs.declared.order.Order.{Order}
+use Rattle.struct_core.specs.declared.refusal.Refusal.{Refusal}
+use Rattle.struct_core.specs.declared.refusal.Refusal.TheVariants.{NotPlain, NoMemory}
+use Rattle.struct_core.specs.Statuses.{status_of}
+use Rattle.struct_core.specs.Words.{Means}
+use Rattle.struct_core.specs.Texts.{fault_line}
+use Rattle.struct_core.specs.Outcome.{Outcome}
+use Rattle.struct_core.specs.Run.{Device, IsUntouched, Ran}
+
+pub untouched : (one : Device) → IsUntouched one one
+untouched one = record { bytes = Keeps-refl one.bytes; faults = refl }
+
+-- ---- runs that have no outcome; `out` wasn't touched
+
+-- the words mean nothing, and nothing was read
+pub no_order : (words : List (List ℕ)) (source out : Device) → ((order : Order) → Means words order → ⊥) → Ran words source source out out 2
+no_order words source out void = record {
+  meant = λ other. absurd (other refl);
+  usage = λ is. void;
+  unread = λ is. untouched source;
+  read_fault = λ rose. absurd (omega arith);
+  read_cause = λ is. absurd (omega (arith, is));
+  too_long = λ is. absurd (omega (arith, is));
+  answered = λ other. absurd (other.0 refl);
+  write_fault = λ rose. absurd (omega arith);
+  out_kept = λ other another. untouched out;
+}
+
+-- a read failed
+pub read_failed : (words : List (List ℕ)) (order : Order) (source source' out : Device) → Means words order → Rose source.faults source'.faults → Ran words source source' out out 8
+read_failed words order source source' out means rose = record {
+  meant = λ other. (order, means);
+  usage = λ is. absurd (omega (arith, is));
+  unread = λ is. absurd (omega (arith, is));
+  read_fault = λ more. refl;
+  read_cause = λ is. rose;
+  too_long = λ is. absurd (omega (arith, is));
+  answered = λ other. absurd (other.2 refl);
+  write_fault = λ more. absurd (omega arith);
+  out_kept = λ other another. untouched out;
+}
+
+-- one byte more was taken than may be read
+pub input_too_long : (words : List (List ℕ)) (order : Order) (source source' out : Device) → Means words order → source'.faults ≡ source.faults → TakesExactly source.bytes source'.bytes 67108865 → Ran words source source' out out 7
+input_too_long words order source source' out means kept taken = record {
+  meant = λ other. (order, means);
+  usage = λ is. absurd (omega (arith, is));
+  unread = λ is. absurd (omega (arith, is));
+  read_fault = λ more. absurd (omega arith);
+  read_cause = λ is. absurd (omega (arith, is));
+  too_long = λ is. taken;
+  answered = λ other. absurd (other.1 refl);
+  write_fault = λ more. absurd (omega arith);
+  out_kept = λ other another. untouched out;
+}
+
+-- the system refused memory
+pub out_of_memory : (words : List (List ℕ)) (order : Order) (source source' out : Device) → Means words order → source'.faults ≡ source.faults → Ran words source source' out out 10
+out_of_memory words order source source' out means kept = record {
+  meant = λ other. (order, means);
+  usage = λ is. absurd (omega (arith, is));
+  unread = λ is. absurd (omega (arith, is));
+  read_fault = λ more. absurd (omega arith);
+  read_cause = λ is. absurd (omega (arith, is));
+  too_long = λ is. absurd (omega (arith, is));
+  answered = λ other. absurd (other.3 refl);
+  write_fault = λ more. absurd (omega arith);
+  out_kept = λ other another. untouched out;
+}
+
+-- ---- runs with an outcome: the whole input was read without a fault
+
+pub record ReadsWhole (source source' : Device) (input : List ℕ) : Type 0 where
+  pub bytes : IsWholeInput source.bytes source'.bytes input
+  pub short : length input ≤ 67108864
+  pub kept : source'.faults ≡ source.faults
+
+-- the same of a list that equals the bytes that were read
+pub reads_as : (source source' : Device) (input bytes : List ℕ) → input ≡ bytes → IsWholeInput source.bytes source'.bytes bytes → length bytes ≤ 67108864 → source'.faults ≡ source.faults → ReadsWhole source source' input
+reads_as source source' input bytes same whole short kept =
+    subst (ReadsWhole source source') (sym same) (record { bytes = whole; short = short; kept = kept })
+
+-- the document is refused
+pub refused : (words : List (List ℕ)) (order : Order) (source source' out : Device) (input : List ℕ) → Means words order → ReadsWhole source source' input → Outcome order input 3 (fault_line 3) → Ran words source source' out out 3
+refused words order source source' out input means reads comes = record {
+  meant = λ other. (order, means);
+  usage = λ is. absurd (omega (arith, is));
+  unread = λ is. absurd (omega (arith, is));
+  read_fault = λ more. absurd (omega (arith, reads.kept));
+  read_cause = λ is. absurd (omega (arith, is));
+  too_long = λ is. absurd (omega (arith, is));
+  answered = λ other. record {
+    order = order;
+    input = input;
+    outcome = 3;
+    text = fault_line 3;
+    means = means;
+    read = reads.bytes.taken;
+    whole = reads.bytes.ended;
+    short = reads.short;
+    comes = comes;
+    refused = λ another. refl;
+    follows = λ is. absurd (omega (arith, is));
+    done = λ is. absurd (omega (arith, is));
+    cut = λ is. absurd (omega (arith, is));
+  };
+  write_fault = λ more. absurd (omega arith);
+  out_kept = λ other another. untouched out;
+}
+
+-- the text was written
+pub written : (words : List (List ℕ)) (order : Order) (source source' out out' : Device) (input text : List ℕ) → Means words order → ReadsWhole source source' input → Outcome order input 0 text → Appends out.bytes out'.bytes text → out'.faults ≡ out.faults → Ran words source source' out out' 0
+written words order source source' out out' input text means reads comes appends kept = record {
+  meant = λ other. (order, means);
+  usage = λ is. absurd (omega (arith, is));
+  unread = λ is. absurd (omega (arith, is));
+  read_fault = λ more. absurd (omega (arith, reads.kept));
+  read_cause = λ is. absurd (omega (arith, is));
+  too_long = λ is. absurd (omega (arith, is));
+  answered = λ other. record {
+    order = order;
+    input = input;
+    outcome = 0;
+    text = text;
+    means = means;
+    read = reads.bytes.taken;
+    whole = reads.bytes.ended;
+    short = reads.short;
+    comes = comes;
+    refused = λ another. absurd (another refl);
+    follows = λ is. inl refl;
+    done = λ is. appends;
+    cut = λ is. absurd (omega (arith, is));
+  };
+  write_fault = λ more. absurd (omega arith);
+  out_kept = λ other another. absurd (other refl);
+}
+
+-- the text was written in part
+pub write_failed : (words : List (List ℕ)) (order : Order) (source source' out out' : Device) (input text : List ℕ) → Means words order → ReadsWhole source source' input → Outcome order input 0 text → AppendsFront out.bytes out'.bytes text → Rose out.faults out'.faults → Ran words source source' out out' 9
+write_failed words order source source' out out' input text means reads comes appends rose = record {
+  meant = λ other. (order, means);
+  usage = λ is. absurd (omega (arith, is));
+  unread = λ is. absurd (omega (arith, is));
+  read_fault = λ more. absurd (omega (arith, reads.kept));
+  read_cause = λ is. absurd (omega (arith, is));
+  too_long = λ is. absurd (omega (arith, is));
+  answered = λ other. record {
+    order = order;
+    input = input;
+    outcome = 0;
+    text = text;
+    means = means;
+    read = reads.bytes.taken;
+    whole = reads.bytes.ended;
+    short = reads.short;
+    comes = comes;
+    refused = λ another. absurd (another refl);
+    follows = λ is. inr refl;
+    done = λ is. absurd (omega (arith, is));
+    cut = λ is. (rose, appends);
+  };
+  write_fault = λ more. refl;
+  out_kept = λ other another. absurd (another refl);
+}
+
+-- the answer is a refusal of one kind or the other
+pub not_answered : (words : List (List ℕ)) (order : Order) (source source' out : Device) (input : List ℕ) (refusal : Refusal) → Means words order → ReadsWhole source source' input → (refusal ≡ NotPlain → Outcome order input 3 (fault_line 3)) → (refusal ≡ NotPlain) ⊎ (refusal ≡ NoMemory) → Ran words source source' out out (status_of refusal)
+not_answered words order source source' out input refusal means reads comes (inl plain) =
+    subst (λ (r : Refusal). Ran words source source' out out (status_of r)) (sym plain)
+    (refused words order source source' out input means reads (comes plain))
+not_answered words order source source' out input refusal means reads comes (inr memory) =
+    subst (λ (r : Refusal). Ran words source source' out out (status_of r)) (sym memory)
+    (out_of_memory words order source source' out means reads.kept)

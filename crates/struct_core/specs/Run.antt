@@ -1,0 +1,69 @@
+-- A whole run, by what its devices told before and after it. This is what the program promises.
+use Rattle.std.specs.Prelude.{◌≡◌, ◌≢◌, ◌⊎◌, ℕ, ◌≤◌, ◌<◌, List, length, Option}
+use Rattle.std.specs.Io.KnownBytes.{Consumes, Appends, Keeps, IsAtEnd}
+use Rattle.pnml_source.specs.Causes.{Rose}
+use Rattle.pnml_source.specs.Streams.{AppendsFront, TakesExactly}
+use Rattle.struct_core.specs.declared.order.Order.{Order}
+use Rattle.struct_core.specs.Words.{Means}
+use Rattle.struct_core.specs.Texts.{fault_line}
+use Rattle.struct_core.specs.Outcome.{Outcome}
+
+-- a device as it is told: the bytes that it has left or holds, where it tells them, and its count of faults
+pub record Device : Type 0 where
+  pub bytes : Option (List ℕ)
+  pub faults : ℕ
+
+abbrev pub device : Option (List ℕ) → ℕ → Device
+device bytes faults = record { bytes = bytes; faults = faults }
+
+-- nothing happened to a device
+pub record IsUntouched (old new : Device) : Type 0 where
+  pub bytes : Keeps old.bytes new.bytes
+  pub faults : new.faults ≡ old.faults
+
+-- a sink holds what it held and then this line, or, where its count tells a fault, a prefix of the line
+abbrev pub Says : Device → Device → List ℕ → Type 0
+Says old new line =
+    Appends old.bytes new.bytes line ⊎ (Rose old.faults new.faults × AppendsFront old.bytes new.bytes line)
+
+-- the statuses of runs that have an outcome: all but usage, too long, read fault and want of memory
+abbrev pub IsAnswered : ℕ → Type 0
+IsAnswered status = (status ≢ 2) × (status ≢ 7) × (status ≢ 8) × (status ≢ 10)
+
+-- a run with an outcome: all of the input was read, and the text was written, or the outcome's status given
+pub record Answered (words : List (List ℕ)) (source source' out out' : Device) (status : ℕ) : Type 0 where
+  pub order : Order
+  pub input : List ℕ
+  pub outcome : ℕ
+  pub text : List ℕ
+  pub means : Means words order
+  pub read : Consumes source.bytes source'.bytes input
+  pub whole : IsAtEnd source'.bytes
+  pub short : length input ≤ 67108864
+  pub comes : Outcome order input outcome text
+  pub refused : outcome ≢ 0 → status ≡ outcome
+  pub follows : outcome ≡ 0 → (status ≡ 0) ⊎ (status ≡ 9)
+  pub done : status ≡ 0 → Appends out.bytes out'.bytes text
+  pub cut : status ≡ 9 → Rose out.faults out'.faults × AppendsFront out.bytes out'.bytes text
+
+-- a run, apart from what it tells the user on the sink for faults
+pub record Ran (words : List (List ℕ)) (source source' out out' : Device) (status : ℕ) : Type 0 where
+  -- 2 exactly where the words mean nothing, and then nothing was read
+  pub meant : status ≢ 2 → (order : Order) × Means words order
+  pub usage : status ≡ 2 → (order : Order) → Means words order → ⊥
+  pub unread : status ≡ 2 → IsUntouched source source'
+  -- 8 where the source's count rose, and only where it tells a fault
+  pub read_fault : source.faults < source'.faults → status ≡ 8
+  pub read_cause : status ≡ 8 → Rose source.faults source'.faults
+  -- 7 where one byte more was taken than may be read; see `short` for the other direction
+  pub too_long : status ≡ 7 → TakesExactly source.bytes source'.bytes 67108865
+  -- else the outcome
+  pub answered : IsAnswered status → Answered words source source' out out' status
+  -- 9 where the count of `out` rose; on every other status but 0 nothing happened to `out`
+  pub write_fault : out.faults < out'.faults → status ≡ 9
+  pub out_kept : status ≢ 0 → status ≢ 9 → IsUntouched out out'
+
+-- what the user is told: nothing on 0, else the line of the status
+pub record Tells (err err' : Device) (status : ℕ) : Type 0 where
+  pub silent : status ≡ 0 → IsUntouched err err'
+  pub told : status ≢ 0 → Says err err' (fault_line status)

@@ -1,0 +1,24 @@
+/// What a run is to compute of a net.
+#[derive(Clone, Copy, Debug, PartialEq, Eq)]
+pub enum Task {
+    /// The numbers of places, transitions and arcs.
+    Check,
+    /// The canonical text of the document.
+    Canon,
+}
+
+/// How much the enumerations may take.
+#[derive(Clone, Copy, Debug, PartialEq, Eq)]
+pub struct Budgets {
+    /// The most candidate rows of one elimination step.
+    pub rows: u32,
+    /// The most siphons or traps that a search may meet.
+    pub sets: u32,
+}
+
+/// What the words of the command line mean.
+#[derive(Clone, Copy, Debug, PartialEq, Eq)]
+pub enum Order {
+    /// A task on the document of the input.
+    Run(Task, Budgets),
+}

@@ -1,0 +1,79 @@
+ghost use Rattle.struct_core.specs.Run.{device, Ran, Tells};
+ghost use Rattle.struct_core.specs.Statuses.{status_after};
+ghost use Rattle.struct_core.specs.Words.{Means};
+
+use crate::answer::answer;
+use crate::order::Order;
+use crate::refusal::{Refusal, line, status};
+use crate::words::{Words, read_words};
+use pnml_source::{ReadAllFault, Sink, Source, read_all, write_all};
+use std::alloc::Global;
+
+// The most bytes that an input may have.
+const MOST_BYTES: usize = 67_108_864;
+
+/// Reads the whole input, and writes the order's text for it.
+fn work<S: Source, O: Sink>(
+    alloc: Global,
+    words: &Words,
+    order: Order,
+    source: &mut S,
+    out: &mut O,
+) -> Result<(), Refusal>
+    requires { Means words.now order }
+    ensures { Ran words.now (device (S.left source.old) (S.faults source.old)) (device (S.left source.new) (S.faults source.new))
+        (device (O.held out.old) (O.faults out.old)) (device (O.held out.new) (O.faults out.new)) (status_after result) }
+{
+    let bytes = match read_all(alloc, source, MOST_BYTES) {
+        Ok(bytes) => bytes,
+        Err(ReadAllFault::ReadFault) => return Err(Refusal::ReadFault),
+        Err(ReadAllFault::TooLong) => return Err(Refusal::TooLong),
+        Err(ReadAllFault::NoMemory) => return Err(Refusal::NoMemory),
+    };
+    let text = match answer(alloc, order, bytes.as_slice()) {
+        Ok(text) => text,
+        Err(refusal) => return Err(refusal),
+    };
+    match write_all(out, text.as_bytes()) {
+        Ok(()) => Ok(()),
+        Err(_) => Err(Refusal::WriteFault),
+    }
+}
+
+/// The same for words, where they mean an order.
+fn attempt<S: Source, O: Sink>(
+    alloc: Global,
+    words: &Words,
+    source: &mut S,
+    out: &mut O,
+) -> Result<(), Refusal>
+    ensures { Ran words.now (device (S.left source.old) (S.faults source.old)) (device (S.left source.new) (S.faults source.new))
+        (device (O.held out.old) (O.faults out.old)) (device (O.held out.new) (O.faults out.new)) (status_after result) }
+{
+    match read_words(words) {
+        None => Err(Refusal::Usage),
+        Some(order) => work(alloc, words, order, source, out),
+    }
+}
+
+/// Runs what the words mean on the input of `source`. The text is made whole before its first byte goes to
+/// `out`; on each status but 0 one line goes to `err`. The status is the exit status of the program.
+pub fn run<S: Source, O: Sink, E: Sink>(
+    alloc: Global,
+    words: &Words,
+    source: &mut S,
+    out: &mut O,
+    err: &mut E,
+) -> u8
+    ensures ran { Ran words.now (device (S.left source.old) (S.faults source.old)) (device (S.left source.new) (S.faults source.new))
+        (device (O.held out.old) (O.faults out.old)) (device (O.held out.new) (O.faults out.new)) result }
+    ensures tells { Tells (device (E.held err.old) (E.faults err.old)) (device (E.held err.new) (E.faults err.new)) result }
+{
+    match attempt(alloc, words, source, out) {
+        Ok(()) => 0,
+        Err(refusal) => {
+            let _ = write_all(err, line(refusal));
+            status(refusal)
+        }
+    }
+}

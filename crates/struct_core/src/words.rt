@@ -1,0 +1,55 @@
+ghost use Rattle.std.specs.Prelude.{◌≡◌, ◌∷◌, [], ℕ, List as Listed, IfSome, IfNone};
+ghost use Rattle.struct_core.specs.declared.order.Order.{Order as Meaning};
+ghost use Rattle.struct_core.specs.declared.order.Task.{Task as Meant};
+ghost use Rattle.struct_core.specs.Words.{Means, task_word};
+
+use crate::order::{Budgets, Order, Task};
+use net_values::{List, Text};
+
+/// The words after the program's name.
+pub type Words = List<Text>;
+
+const CHECK: &[u8] = b"check";
+
+const CANON: &[u8] = b"canon";
+
+const DEFAULT_BUDGETS: Budgets = Budgets {
+    rows: 20_000,
+    sets: 100_000,
+};
+
+/// The word, where there is one alone.
+fn only_word(words: &Words) -> Option<&Text>
+    ensures found { IfSome result (λ word. words.now ≡ word.now ∷ []) }
+    ensures none { IfNone result ((word : Listed ℕ) → words.now ≡ word ∷ [] → ⊥) }
+{
+    if words.len() == 1 {
+        Some(words.get(0))
+    } else {
+        None
+    }
+}
+
+/// The task that has this word.
+fn task_of(word: &[u8]) -> Option<Task>
+    ensures found { IfSome result (λ task. word.now ≡ task_word task) }
+    ensures none { IfNone result ((task : Meant) → word.now ≡ task_word task → ⊥) }
+{
+    if word == CHECK {
+        Some(Task::Check)
+    } else if word == CANON {
+        Some(Task::Canon)
+    } else {
+        None
+    }
+}
+
+/// The order that the words mean, or `None` where they mean nothing. It takes no memory.
+pub fn read_words(words: &Words) -> Option<Order>
+    ensures meant { IfSome result (λ order. Means words.now order) }
+    ensures none { IfNone result ((order : Meaning) → Means words.now order → ⊥) }
+{
+    let word = only_word(words)?;
+    let task = task_of(word.as_bytes())?;
+    Some(Order::Run(task, DEFAULT_BUDGETS))
+}

@@ -1,0 +1,16 @@
+use pnml_token::{Step, TokenFault, token_at};
+use std::alloc::Global;
+
+/// The number of tokens that stand one after the other from the front of the bytes to their end.
+pub(crate) fn count(alloc: Global, bytes: &[u8]) -> Result<usize, TokenFault> {
+    let mut place = 0;
+    let mut tokens = 0;
+    for _ in 0..bytes.len() {
+        match token_at(alloc, bytes, place)? {
+            Step::Token(_, end) => place = end,
+            Step::End => return Ok(tokens),
+        }
+        tokens += 1;
+    }
+    Ok(tokens)
+}

@@ -1,0 +1,20 @@
+//! Counts the tokens of its input, and tells the offset where none stands.
+#![tactic(auto)]
+
+mod counting;
+
+use counting::count;
+use pnml_token::TokenFault;
+use std::io;
+use std::io::Read;
+
+fn main(rt: HostRuntime) -> io::Result<()> {
+    let mut bytes = Vec::new(rt.alloc());
+    rt.stdin().read_to_end(&mut bytes)?;
+    match count(rt.alloc(), bytes.as_slice()) {
+        Ok(tokens) => println!(rt; "{tokens} tokens")?,
+        Err(TokenFault::BadToken(place)) => println!(rt; "bad token at {place}")?,
+        Err(TokenFault::NoMemory) => println!(rt; "out of memory")?,
+    }
+    Ok(())
+}

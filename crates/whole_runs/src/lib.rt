@@ -1,0 +1,10 @@
+//! Whole runs over devices in memory: words, input and what the devices do on one side, the status and what
+//! the two sinks hold on the other. The crate has tests alone.
+#![tactic(auto)]
+
+#[cfg(test)]
+mod documents;
+#[cfg(test)]
+mod faults;
+#[cfg(test)]
+mod fixture;
