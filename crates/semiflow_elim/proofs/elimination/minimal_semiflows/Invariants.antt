@@ -1,7 +1,7 @@
 use Rattle.std.proofs.Common.{◌≡◌, ℕ, ◌-◌, ◌<◌, ◌≤◌}
 use Rattle.incidence.specs.Tables.{matrix_of}
 use Rattle.semiflow_elim.specs.FirstFail.{StepPasses}
-use Rattle.semiflow_elim.proofs.elimination.eliminated.Given as goal
+use Rattle.semiflow_elim.proofs.elimination.minimal_semiflows.Given as goal
 
 abbrev pub invariant-loop-tableau : goal.invariant-loop-tableau
 invariant-loop-tableau l = record {
