@@ -9,3 +9,4 @@ pub mod Pairs
 pub mod Steps
 pub mod Units
 pub mod Listed
+pub mod Generation

@@ -10,7 +10,7 @@ use Rattle.incidence.specs.Matrix.{Matrix}
 use Rattle.incidence.specs.Semiflow.{IsSemiflow, IsMinimal, first_columns, all_columns}
 use Rattle.semiflow_elim.specs.Bases.{AreMinimal, IsMinimalRow}
 
-semiflow_along : (m : Matrix) (K K' : ℕ → Type 0) → ((j : ℕ) → j < m.columns → K' j → K j) → (y : ℕ → ℕ) → IsSemiflow m K y → IsSemiflow m K' y
+pub semiflow_along : (m : Matrix) (K K' : ℕ → Type 0) → ((j : ℕ) → j < m.columns → K' j → K j) → (y : ℕ → ℕ) → IsSemiflow m K y → IsSemiflow m K' y
 semiflow_along m K K' back y flow = record {
   nonzero = flow.nonzero;
   balanced = λ j p k. flow.balanced j p (back j p k);

@@ -3,6 +3,7 @@ use Rattle.std.specs.Prelude.{◌≡◌, ℕ, ◌*◌, ◌<◌, Bool, List, IsTr
 use Rattle.incidence.specs.Matrix.{Matrix}
 use Rattle.incidence.specs.Semiflow.{IsWithin, IsSemiflow, IsMinimal}
 use Rattle.semiflow_elim.specs.Bases.{IsBasis, AreMinimal}
+use Rattle.semiflow_elim.specs.Generated.{IsGenerated}
 
 -- the columns at which a test gives true
 abbrev pub is_in : (ℕ → Bool) → ℕ → Type 0
@@ -21,3 +22,6 @@ MinimalOnesAreProportional = (m : Matrix) (taken : ℕ → Bool) (y z : ℕ → 
 
 abbrev pub BasesAreMinimal : Type 0
 BasesAreMinimal = (m : Matrix) (taken : ℕ → Bool) (rows : List (List ℕ)) → IsBasis m (is_in taken) rows → AreMinimal m (is_in taken) rows
+
+abbrev pub BasesGenerate : Type 0
+BasesGenerate = (m : Matrix) (taken : ℕ → Bool) (rows : List (List ℕ)) → IsBasis m (is_in taken) rows → (y : ℕ → ℕ) → IsSemiflow m (is_in taken) y → IsGenerated m rows y

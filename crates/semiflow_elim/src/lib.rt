@@ -14,5 +14,5 @@ mod tests;
 
 pub use elimination::minimal_semiflows;
 pub use fault::ElimFault;
-pub use laws::{bases_are_minimal, minimal_ones_are_proportional};
+pub use laws::{bases_are_minimal, bases_generate, minimal_ones_are_proportional};
 pub use tableau::Tableau;

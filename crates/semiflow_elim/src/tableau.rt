@@ -81,6 +81,7 @@ impl<'m> Tableau<'m> {
     pub fn into_rows(self) -> Rows
         ensures rows { result ≡ self.entry.rows }
         ensures minimal { AreMinimal (matrix_of self.entry.tables) (first_columns self.entry.done) self.entry.rows }
+        ensures basis { IsBasis (matrix_of self.entry.tables) (first_columns self.entry.done) self.entry.rows }
     {
         self.rows
     }

@@ -4,12 +4,13 @@ use Rattle.std.proofs.lemmas.Result.{err_from_is_err_and}
 use Rattle.incidence.specs.Matrix.{Matrix}
 use Rattle.incidence.specs.Semiflow.{first_columns}
 use Rattle.incidence.specs.Tables.{Tables, matrix_of}
-use Rattle.semiflow_elim.specs.Bases.{AreMinimal}
+use Rattle.semiflow_elim.specs.Bases.{AreMinimal, IsBasis}
 use Rattle.semiflow_elim.specs.Elimination.{FailsBy}
 use Rattle.semiflow_elim.specs.FirstFail.{StepPasses, IsExplained}
 use Rattle.semiflow_elim.specs.declared.fault.ElimFault.{ElimFault}
 use Rattle.semiflow_elim.specs.declared.fault.ElimFault.TheVariants.{NoMemory, WideSum, RowBudget, WideRow}
 use Rattle.semiflow_elim.proofs.Listed.{sorted_list}
+use Rattle.semiflow_elim.proofs.Generation.{sorted_generates}
 use Rattle.semiflow_elim.proofs.elimination.minimal_semiflows.Goals as goal
 
 -- a failing step after steps that pass is the first failure
@@ -25,6 +26,13 @@ more_pass m budget done next is before now j under =
       | inl below ↦ before j below
       | inr above ↦ let same : done ≡ j = omega arith in subst (StepPasses m budget) same now
     ]
+
+-- what holds of the rows over the columns taken holds over all columns once these are taken
+over_all : (P : Matrix → (ℕ → Type 0) → List (List ℕ) → Type 0) (own tables : Tables) (done : ℕ) (rows list : List (List ℕ)) → tables ≡ own → done ≡ (matrix_of own).columns → list ≡ rows → P (matrix_of tables) (first_columns done) rows → P (matrix_of own) (first_columns (matrix_of own).columns) list
+over_all P own tables done rows list same all moved holds =
+    let of_own = subst (λ (t : Tables). P (matrix_of t) (first_columns done) rows) same holds in
+    let of_all = subst (λ (n : ℕ). P (matrix_of own) (first_columns n) rows) all of_own in
+    subst (P (matrix_of own) (first_columns (matrix_of own).columns)) (sym moved) of_all
 
 pub loop-tableau-preserved : goal.loop-tableau-preserved
 loop-tableau-preserved c =
@@ -55,6 +63,15 @@ returns-clause-list c =
     let t = c.loop-tableau.tableau in
     let m = matrix_of c.args.matrix.now in
     let done : t.done ≡ m.columns = omega (arith, c.done.ensures.value, c.columns.ensures.value, c.loop-tableau.invariant.taken, c.loop-tableau-test.false) in
-    let of_tables = subst (λ (tables : Tables). AreMinimal (matrix_of tables) (first_columns t.done) t.rows) c.loop-tableau.invariant.same c.into_rows-list.ensures.minimal in
-    let of_columns = subst (λ (n : ℕ). AreMinimal m (first_columns n) t.rows) done of_tables in
-    sorted_list m c.into_rows-list.result c.sort.new.self (subst (AreMinimal m (first_columns m.columns)) (sym c.into_rows-list.ensures.rows) of_columns) c.sort.ensures.same c.sort.ensures.strict
+    sorted_list m c.into_rows-list.result c.sort.new.self
+    (over_all AreMinimal c.args.matrix.now t.tables t.done t.rows c.into_rows-list.result c.loop-tableau.invariant.same done c.into_rows-list.ensures.rows c.into_rows-list.ensures.minimal)
+    c.sort.ensures.same c.sort.ensures.strict
+
+pub returns-clause-generates : goal.returns-clause-generates
+returns-clause-generates c =
+    let t = c.loop-tableau.tableau in
+    let m = matrix_of c.args.matrix.now in
+    let done : t.done ≡ m.columns = omega (arith, c.done.ensures.value, c.columns.ensures.value, c.loop-tableau.invariant.taken, c.loop-tableau-test.false) in
+    sorted_generates m c.into_rows-list.result c.sort.new.self
+    (over_all IsBasis c.args.matrix.now t.tables t.done t.rows c.into_rows-list.result c.loop-tableau.invariant.same done c.into_rows-list.ensures.rows c.into_rows-list.ensures.basis)
+    c.sort.ensures.same
