@@ -10,3 +10,4 @@ pub mod Steps
 pub mod Units
 pub mod Listed
 pub mod Generation
+pub mod Offers

@@ -18,7 +18,7 @@ counts_same p q [] [] size each = refl
 counts_same p q [] (y ∷ ys) size each = absurd (omega arith)
 counts_same p q (x ∷ xs) [] size each = absurd (omega arith)
 counts_same p q (x ∷ xs) (y ∷ ys) size each =
-    let first : cond (p x) 1 0 ≡ cond (q y) 1 0 = ap (λ (b : Bool). cond {A = ℕ} b 1 0) (each 0 x y (omega arith)) in
+    let first : cond {A = ℕ} (p x) 1 0 ≡ cond {A = ℕ} (q y) 1 0 = ap (λ (b : Bool). cond {A = ℕ} b 1 0) (each 0 x y (omega arith)) in
     let rest = counts_same p q xs ys (omega arith) (λ k d e under. each (suc k) d e (omega arith)) in
     let left = sum_by-cons (λ x. cond {A = ℕ} (p x) 1 0) x xs in
     let right = sum_by-cons (λ y. cond {A = ℕ} (q y) 1 0) y ys in

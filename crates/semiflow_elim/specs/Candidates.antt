@@ -1,5 +1,5 @@
 -- The candidates of an elimination step, and what offering them to a pool leaves.
-use Rattle.std.specs.Prelude.{◌≡◌, ℕ, ◌+◌, ◌*◌, ◌/◌, ◌<◌, ◌==◌, nat_lt, count_by, List, length, All, slice_index, slice_index_or}
+use Rattle.std.specs.Prelude.{◌≡◌, ℕ, ◌+◌, ◌*◌, ◌/◌, ◌<◌, ◌==◌, if◌then◌else◌, nat_lt, count_by, List, length, All, slice_index, slice_index_or, take}
 use Rattle.std.specs.Int.{IsGcd}
 use Rattle.incidence.specs.Matrix.{Matrix, AreNarrow, gain_sum, loss_sum}
 use Rattle.incidence.specs.Semiflow.{first_columns}
@@ -73,3 +73,17 @@ pub record AreSums (m : Matrix) (c : ℕ) (rows : List (List ℕ)) (sums : List 
 -- the candidate count, read off the sums
 abbrev pub signs_total : List RowSums → ℕ
 signs_total sums = count_by (λ own. own.gain == own.loss) sums + count_by (λ own. nat_lt own.loss own.gain) sums * count_by (λ own. nat_lt own.gain own.loss) sums
+
+-- how many candidates a row of these sums gives by itself, and with another one
+abbrev pub zero_offers : RowSums → ℕ
+zero_offers own = if own.gain == own.loss then 1 else 0
+
+abbrev pub pair_offers : RowSums → RowSums → ℕ
+pair_offers first second = if nat_lt first.loss first.gain then (if nat_lt second.gain second.loss then 1 else 0) else 0
+
+-- how many it gives with the first n rows, and how many the first n rows give with all
+abbrev pub row_offers : RowSums → List RowSums → ℕ → ℕ
+row_offers first sums n = if nat_lt first.loss first.gain then count_by (λ own. nat_lt own.gain own.loss) (take n sums) else 0
+
+abbrev pub all_offers : List RowSums → ℕ → ℕ
+all_offers sums n = count_by (λ own. own.gain == own.loss) (take n sums) + count_by (λ own. nat_lt own.loss own.gain) (take n sums) * count_by (λ own. nat_lt own.gain own.loss) sums

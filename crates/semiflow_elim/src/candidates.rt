@@ -1,8 +1,9 @@
-ghost use Rattle.std.specs.Prelude.{◌≡◌, [], ℕ, ◌<◌, ◌-◌, IfOk, OnOk, IfErr, length, slice_index};
+ghost use Rattle.std.specs.Prelude.{◌≡◌, [], ℕ, ◌+◌, ◌<◌, ◌≤◌, ◌-◌, IfOk, OnOk, IfErr, length, slice_index};
 ghost use Rattle.incidence.specs.Matrix.{gain_sum, loss_sum};
 ghost use Rattle.incidence.specs.Tables.{matrix_of};
 ghost use Rattle.semiflow_elim.specs.Bases.{HasBelow};
 ghost use Rattle.semiflow_elim.specs.Candidates.{IsCombined, IsWideCombination, IsStep, AreGood, Grows, IsMet, PairsOffered, AllOffered};
+ghost use Rattle.semiflow_elim.specs.Candidates.{sums_of, zero_offers, pair_offers, row_offers, all_offers};
 ghost use Rattle.semiflow_elim.specs.Elimination.{IsPair, IsWidePair, row_of};
 
 use crate::row_arithmetic::{RowFault, divide_all, gcd, gcd_of_all, scaled_sum};
@@ -46,6 +47,7 @@ fn offer_pair(
     requires second { k < length rows.now }
     ensures grows { OnOk result (Grows (matrix_of matrix.now) column pool.old pool.new) }
     ensures met { OnOk result (IsPair (matrix_of matrix.now) column (row_of rows.now i) (row_of rows.now k) → IsMet (matrix_of matrix.now) column pool.new (row_of rows.now i) (row_of rows.now k)) }
+    ensures count { OnOk result (length pool.new ≤ length pool.old + pair_offers (sums_of sums.now i) (sums_of sums.now k)) }
     ensures wide { IfErr result (λ fault. fault ≡ RowFault.Wide → IsWidePair (matrix_of matrix.now) column (row_of rows.now i) (row_of rows.now k)) }
 {
     let (first, second) = (sums[i], sums[k]);
@@ -79,6 +81,7 @@ fn offer_pairs(
     requires good { AreGood (matrix_of matrix.now) column pool.old }
     requires first { i < length rows.now }
     ensures ok { OnOk result (PairsOffered (matrix_of matrix.now) column rows.now pool.old pool.new i (length rows.now)) }
+    ensures count { OnOk result (length pool.new ≤ length pool.old + row_offers (sums_of sums.now i) sums.now (length rows.now)) }
     ensures wide { IfErr result (λ fault. fault ≡ RowFault.Wide → (k : ℕ) × (k < length rows.now) × IsWidePair (matrix_of matrix.now) column (row_of rows.now i) (row_of rows.now k)) }
 {
     for k in 0..rows.len() {
@@ -102,6 +105,7 @@ fn offer_zero(
     requires first { i < length rows.now }
     ensures grows { OnOk result (Grows (matrix_of matrix.now) column pool.old pool.new) }
     ensures met { OnOk result (gain_sum (matrix_of matrix.now) column (slice_index (row_of rows.now i)) ≡ loss_sum (matrix_of matrix.now) column (slice_index (row_of rows.now i)) → HasBelow (matrix_of matrix.now) pool.new (slice_index (row_of rows.now i))) }
+    ensures count { OnOk result (length pool.new ≤ length pool.old + zero_offers (sums_of sums.now i)) }
     ensures narrow { IfErr result (λ fault. fault ≡ RowFault.Wide → ⊥) }
 {
     let own = sums[i];
@@ -129,6 +133,7 @@ pub(crate) fn offer_all(
 ) -> Result<Pool, RowFault>
     requires { IsStep (matrix_of matrix.now) column rows.now sums.now }
     ensures ok { IfOk result (λ pool. AllOffered (matrix_of matrix.now) column rows.now pool (length rows.now)) }
+    ensures count { IfOk result (λ pool. length pool ≤ all_offers sums.now (length rows.now)) }
     ensures wide { IfErr result (λ fault. fault ≡ RowFault.Wide → (i : ℕ) × (k : ℕ) × (i < length rows.now) × (k < length rows.now) × IsWidePair (matrix_of matrix.now) column (row_of rows.now i) (row_of rows.now k)) }
 {
     let mut pool = Pool::new(alloc);

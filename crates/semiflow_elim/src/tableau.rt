@@ -109,12 +109,7 @@ fn next_rows(
         return Err(ElimFault::RowBudget(column, count));
     }
     match offer_all(alloc, matrix, column, rows, sums.as_slice()) {
-        Ok(pool) => {
-            if pool.rows().len() > u32::MAX as usize {
-                return Err(ElimFault::NoMemory);
-            }
-            Ok(pool.into_rows())
-        }
+        Ok(pool) => Ok(pool.into_rows()),
         Err(RowFault::Wide) => Err(ElimFault::WideRow(column)),
         Err(RowFault::NoMemory) => Err(ElimFault::NoMemory),
     }

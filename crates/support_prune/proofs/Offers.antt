@@ -1,6 +1,6 @@
 -- What an offer leaves. Where a kept support is in that of the offered row, nothing changes. Otherwise the
 -- kept rows that aren't wider stay, the offered row comes in, and each row that went has it below.
-use Rattle.std.proofs.Common.{◌≡◌, ◌<◌, refl, sym, ap, ◌∙◌, subst, ℕ, zero, suc, Bool, true, false, not, cond, List, [], ◌∷◌, ◌++◌, length, get_or, filter, take, All, Any, Contains, inl, inr, arith}
+use Rattle.std.proofs.Common.{◌≡◌, ◌+◌, ◌<◌, ◌≤◌, refl, sym, ap, ◌∙◌, subst, ℕ, zero, suc, Bool, true, false, not, cond, List, [], ◌∷◌, ◌++◌, length, length-append, get_or, filter, take, All, Any, Contains, inl, inr, arith}
 use Rattle.std.specs.List.{list_any}
 use Rattle.std.specs.Prelude.{◌⊎◌, ◌||◌}
 use Rattle.std.proofs.lemmas.Bool.{false≢true}
@@ -8,6 +8,7 @@ use Rattle.std.proofs.Math.Seq.{get_or-append_seam, take-append_seam}
 use Rattle.std.proofs.lemmas.List.Elements.{All-nil, All-tail, All-cons, All-push, All-filter, Contains-get_or, Contains-push, Contains-append_left}
 use Rattle.std.proofs.lemmas.List.Kept.{AllPairs-filter}
 use Rattle.std.proofs.lemmas.List.Quantifiers.{all_pairs_push}
+use Rattle.std.proofs.lemmas.List.Sums.{length-filter, count_by-le-length}
 use Rattle.std.proofs.lemmas.List.Folds.{Any-from_list_any}
 use Rattle.support_prune.specs.Supports.{IsWithin, is_within}
 use Rattle.support_prune.specs.Pools.{AreApart, IsPool, HasWithin, Offered, row_at}
@@ -99,3 +100,11 @@ sieve_of_push old row pushed new before pushed_is before_is new_is =
     let last : row_at pushed before ≡ row = ap (λ (rows : List (List ℕ)). row_at rows before) pushed_is ∙ ap (row_at (old ++ row ∷ [])) before_is ∙ get_or-append_seam old row [] [] in
     let front : take before pushed ≡ old = ap (take before) pushed_is ∙ ap (λ n. take n (old ++ row ∷ [])) before_is ∙ take-append_seam old (row ∷ []) in
     new_is ∙ ap (λ (r : List ℕ). filter (λ other. not (is_within r other)) (take before pushed) ++ r ∷ []) last ∙ ap (λ (rows : List (List ℕ)). filter (λ other. not (is_within row other)) rows ++ row ∷ []) front
+
+-- the pool has at most one row more
+pub short_of_sieve : (passes : List ℕ → Bool) (old new : List (List ℕ)) (row : List ℕ) → new ≡ filter passes old ++ row ∷ [] → length new ≤ length old + 1
+short_of_sieve passes old new row is =
+    let count = ap length is ∙ length-append (filter passes old) (row ∷ []) in
+    let kept = length-filter passes old in
+    let fewer = count_by-le-length passes old in
+    omega (arith, count, kept, fewer)

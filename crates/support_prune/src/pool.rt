@@ -1,4 +1,4 @@
-ghost use Rattle.std.specs.Prelude.{◌≡◌, [], ◌∷◌, ◌++◌, ◌+◌, not, OnOk, OnErr, All, length, filter, take};
+ghost use Rattle.std.specs.Prelude.{◌≡◌, [], ◌∷◌, ◌++◌, ◌+◌, ◌≤◌, not, OnOk, OnErr, All, length, filter, take};
 ghost use Rattle.std.specs.List.{list_any};
 ghost use Rattle.support_prune.specs.Supports.{is_within as within_test};
 ghost use Rattle.support_prune.specs.Pools.{IsPool, Offered, row_at};
@@ -42,6 +42,7 @@ impl Pool {
     pub fn offer(&mut self, row: Vector) -> Result<(), NoMemory>
         requires { All (λ kept. length kept ≡ length row) self.old }
         ensures ok { OnOk result (Offered self.old self.new row) }
+        ensures count { OnOk result (length self.new ≤ length self.old + 1) }
         ensures err { OnErr result (self.new ≡ self.old) }
     {
         if has_within(self.rows.as_slice(), &row) {

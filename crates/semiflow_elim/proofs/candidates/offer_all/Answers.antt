@@ -4,6 +4,7 @@ use Rattle.incidence.specs.Matrix.{Matrix, gain_sum, loss_sum}
 use Rattle.semiflow_elim.specs.Bases.{HasBelow}
 use Rattle.semiflow_elim.specs.Candidates.{Grows, IsMet, PairsOffered, AllOffered}
 use Rattle.semiflow_elim.specs.Elimination.{IsPair, row_of}
+use Rattle.semiflow_elim.proofs.Offers.{all_offers_more}
 use Rattle.semiflow_elim.proofs.candidates.offer_all.Goals as goal
 
 -- one more row: itself and its pairs
@@ -29,4 +30,7 @@ all_more m c rows now mid new i before grows zero_met pairs_met = record {
 }
 
 pub loop-i-preserved : goal.loop-i-preserved
-loop-i-preserved c = all_more _ _ _ _ _ _ _ c.loop-i.invariant c.in_ok-offer_zero.ensures.grows c.in_ok-offer_zero.ensures.met c.in_ok-offer_pairs.ensures.ok
+loop-i-preserved c = record {
+  offered = all_more _ _ _ _ _ _ _ c.loop-i.invariant.offered c.in_ok-offer_zero.ensures.grows c.in_ok-offer_zero.ensures.met c.in_ok-offer_pairs.ensures.ok;
+  count = all_offers_more c.args.sums.now c.loop-i.i (length c.args.rows.now) _ _ _ c.requires.size (let size = c.requires.size in omega arith) c.loop-i.invariant.count c.in_ok-offer_zero.ensures.count c.in_ok-offer_pairs.ensures.count;
+}

@@ -1,8 +1,9 @@
 use Rattle.std.proofs.Common.{ℕ, ◌≡◌, ◌+◌, List, subst, inl, inr, arith}
 use Rattle.std.proofs.lemmas.Bool.{cases_lt}
 use Rattle.incidence.specs.Matrix.{Matrix}
-use Rattle.semiflow_elim.specs.Candidates.{Grows, IsMet, PairsOffered}
+use Rattle.semiflow_elim.specs.Candidates.{Grows, IsMet, PairsOffered, sums_of}
 use Rattle.semiflow_elim.specs.Elimination.{IsPair, row_of}
+use Rattle.semiflow_elim.proofs.Offers.{row_offers_more}
 use Rattle.semiflow_elim.proofs.candidates.offer_pairs.Goals as goal
 
 -- one more pair
@@ -19,4 +20,7 @@ pairs_more m c rows old now new i k before grows met = record {
 }
 
 pub loop-k-preserved : goal.loop-k-preserved
-loop-k-preserved c = pairs_more _ _ _ _ _ _ _ _ c.loop-k.invariant c.in_ok-offer_pair.ensures.grows c.in_ok-offer_pair.ensures.met
+loop-k-preserved c = record {
+  offered = pairs_more _ _ _ _ _ _ _ _ c.loop-k.invariant.offered c.in_ok-offer_pair.ensures.grows c.in_ok-offer_pair.ensures.met;
+  count = row_offers_more (sums_of c.args.sums.now c.args.i) c.args.sums.now c.loop-k.k _ _ _ (let size = c.requires.step.size in omega arith) c.loop-k.invariant.count c.in_ok-offer_pair.ensures.count;
+}

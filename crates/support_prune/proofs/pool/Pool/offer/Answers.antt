@@ -2,7 +2,7 @@ use Rattle.std.proofs.Common.{◌≡◌, sym, ap, ◌∙◌, subst, ℕ, List, t
 use Rattle.std.specs.List.{list_any}
 use Rattle.support_prune.specs.Supports.{is_within}
 use Rattle.support_prune.specs.Pools.{IsPool}
-use Rattle.support_prune.proofs.Offers.{offered_found, offered_new, sieve_of_push}
+use Rattle.support_prune.proofs.Offers.{offered_found, offered_new, sieve_of_push, short_of_sieve}
 use Rattle.support_prune.proofs.pool.Pool.offer.Goals as goal
 
 pub returns-then-has_within-clause-ok : goal.returns-then-has_within-clause-ok
@@ -20,6 +20,12 @@ returns-clause-ok c =
     sym (ap (list_any (λ other. is_within other c.args.row)) (c.as_slice.ensures.value ∙ c.self.view_is)) ∙ sym c.has_within.ensures ∙ c.if-has_within.false
     in
     offered_new old c.drop_wider.new.rows c.args.row (subst IsPool c.self.view_is c.self.invariant) c.requires test
+    (sieve_of_push old c.args.row c.push.new.self c.drop_wider.new.rows _ (c.in_ok-push.ensures.ok ∙ ap (λ (rows : List (List ℕ)). rows ++ c.args.row ∷ []) c.self.view_is) (c.len-before.ensures ∙ ap length c.self.view_is) c.drop_wider.ensures)
+
+pub returns-clause-count : goal.returns-clause-count
+returns-clause-count c =
+    let old = c.args.self.now in
+    short_of_sieve _ old c.drop_wider.new.rows c.args.row
     (sieve_of_push old c.args.row c.push.new.self c.drop_wider.new.rows _ (c.in_ok-push.ensures.ok ∙ ap (λ (rows : List (List ℕ)). rows ++ c.args.row ∷ []) c.self.view_is) (c.len-before.ensures ∙ ap length c.self.view_is) c.drop_wider.ensures)
 
 pub invariant_of-self-2 : goal.invariant_of-self-2
