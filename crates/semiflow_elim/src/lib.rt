@@ -1,5 +1,6 @@
-//! The minimal semiflows of a matrix, by elimination of one column after another: at every moment the rows
-//! are exactly the semiflows of minimal support, with coprime entries, over the columns that were taken.
+//! The minimal semiflows of a matrix, by elimination of one column after another: at every moment the
+//! rows are exactly the semiflows of minimal support, with coprime entries, over the columns that were
+//! taken.
 #![tactic(auto)]
 
 mod candidates;

@@ -1,4 +1,5 @@
-ghost use Rattle.std.specs.Prelude.{◌≡◌, ℕ, ◌<◌, ◌^◌, IfOk, IfErr, All, length, ◌==◌, nat_lt, count_by};
+ghost use Rattle.std.specs.Prelude.{◌≡◌, ℕ, ◌<◌, ◌^◌, ◌==◌};
+ghost use Rattle.std.specs.Prelude.{IfOk, IfErr, All, length, nat_lt, count_by};
 ghost use Rattle.incidence.specs.Tables.{matrix_of};
 ghost use Rattle.semiflow_elim.specs.Candidates.{AreSums, signs_total};
 ghost use Rattle.semiflow_elim.specs.Elimination.{FailsBy};
@@ -24,8 +25,10 @@ pub(crate) fn row_sums(
 ) -> Result<Vec<RowSums>, ElimFault>
     requires column { column < (matrix_of matrix.now).columns }
     requires size { All (λ row. length row ≡ (matrix_of matrix.now).rows) rows.now }
-    ensures ok { IfOk result (λ sums. AreSums (matrix_of matrix.now) column rows.now sums.items (length rows.now)) }
-    ensures fails { (budget : ℕ) → IfErr result (FailsBy (matrix_of matrix.now) budget column rows.now) }
+    ensures ok { IfOk result (λ sums.
+        AreSums (matrix_of matrix.now) column rows.now sums.items (length rows.now)) }
+    ensures fails { (budget : ℕ) →
+        IfErr result (FailsBy (matrix_of matrix.now) budget column rows.now) }
 {
     let mut sums = Vec::new(alloc);
     for row in rows {

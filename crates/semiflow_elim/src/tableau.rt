@@ -29,7 +29,11 @@ impl<'m> Model for Tableau<'m> {
 
     ghost view = { λ t. record { tables = t.matrix.now; done = t.done; rows = t.rows } };
 
-    ghost invariant = { λ t. IsTableau record { tables = t.matrix.now; done = t.done; rows = t.rows } };
+    ghost invariant = { λ t. IsTableau record {
+      tables = t.matrix.now;
+      done = t.done;
+      rows = t.rows;
+    } };
 }
 
 impl<'m> Tableau<'m> {
@@ -38,7 +42,6 @@ impl<'m> Tableau<'m> {
         ensures matrix { IfOk result (λ tableau. tableau.tables ≡ matrix.now) }
         ensures done { IfOk result (λ tableau. tableau.done ≡ 0) }
     {
-        let _columns = matrix.columns();
         let rows = unit_rows(alloc, matrix.rows())?;
         Ok(Tableau {
             matrix,
@@ -61,9 +64,11 @@ impl<'m> Tableau<'m> {
         requires { self.old.done < (matrix_of self.old.tables).columns }
         ensures ok { OnOk result (self.new.done ≡ self.old.done + 1) }
         ensures matrix { self.new.tables ≡ self.old.tables }
-        ensures passes { OnOk result (Passes (matrix_of self.old.tables) rows self.old.done self.old.rows) }
+        ensures passes { OnOk result
+            (Passes (matrix_of self.old.tables) rows self.old.done self.old.rows) }
         ensures err { OnErr result (self.new ≡ self.old) }
-        ensures fails { IfErr result (FailsBy (matrix_of self.old.tables) rows self.old.done self.old.rows) }
+        ensures fails { IfErr result
+            (FailsBy (matrix_of self.old.tables) rows self.old.done self.old.rows) }
     {
         let next = next_rows(
             self.alloc,
@@ -77,7 +82,8 @@ impl<'m> Tableau<'m> {
         Ok(())
     }
 
-    /// The rows, which are exactly the semiflows of minimal support over the columns that were taken.
+    /// The rows, which are exactly the semiflows of minimal support over the columns that were
+    /// taken, and below each of these semiflows there is one.
     pub fn into_rows(self) -> Rows
         ensures rows { result ≡ self.entry.rows }
         ensures minimal { AreMinimal (matrix_of self.entry.tables) (first_columns self.entry.done) self.entry.rows }
@@ -98,7 +104,8 @@ fn next_rows(
     requires column { column < (matrix_of matrix.now).columns }
     requires basis { IsBasis (matrix_of matrix.now) (first_columns column) rows.now }
     requires few { length rows.now < 2 ^ 32 }
-    ensures basis { IfOk result (λ next. IsBasis (matrix_of matrix.now) (first_columns (column + 1)) next) }
+    ensures basis { IfOk result (λ next.
+        IsBasis (matrix_of matrix.now) (first_columns (column + 1)) next) }
     ensures few { IfOk result (λ next. length next < 2 ^ 32) }
     ensures passes { OnOk result (Passes (matrix_of matrix.now) budget column rows.now) }
     ensures fails { IfErr result (FailsBy (matrix_of matrix.now) budget column rows.now) }
