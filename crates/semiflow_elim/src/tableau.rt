@@ -83,7 +83,7 @@ impl<'m> Tableau<'m> {
     }
 
     /// The rows, which are exactly the semiflows of minimal support over the columns that were
-    /// taken, and below each of these semiflows there is one.
+    /// taken. The support of each semiflow over these columns has that of a row in it.
     pub fn into_rows(self) -> Rows
         ensures rows { result ≡ self.entry.rows }
         ensures minimal { AreMinimal (matrix_of self.entry.tables) (first_columns self.entry.done) self.entry.rows }

@@ -5,8 +5,8 @@ use std::alloc::Global;
 use std::process::Abort;
 use std::test::Fail;
 
-/// The net with this many places and transitions and these arcs: place, transition, whether it leads to
-/// the place, weight.
+/// The net with this many places and transitions and these arcs: place, transition, whether it leads
+/// to the place, weight.
 fn net(
     rt: &impl Abort,
     alloc: Global,
@@ -80,6 +80,32 @@ fn the_minimal_semiflows_are_listed_in_order(rt: HostRuntime) -> Result<(), Fail
         for (row, entries) in rows.as_slice().iter().zip(expected) {
             for (entry, wanted) in row.as_slice().iter().zip(entries.as_slice()) {
                 assert_eq!(rt; *entry, *wanted);
+            }
+        }
+    }
+    Ok(())
+}
+
+#[test]
+fn a_step_above_its_budget_is_refused(rt: HostRuntime) -> Result<(), Fail> {
+    let alloc = rt.alloc();
+    let fan = [
+        (0, 0, false, 1),
+        (1, 0, false, 1),
+        (2, 0, false, 1),
+        (3, 0, true, 1),
+        (4, 0, true, 1),
+        (5, 0, true, 1),
+    ];
+    let net = net(&rt, alloc, 6, 1, fan.as_slice())?;
+    let matrix = Incidence::of(alloc, &net)?;
+    for (budget, fits) in [(8, false), (9, true)] {
+        match minimal_semiflows(alloc, &matrix, budget) {
+            Ok(rows) => {
+                assert!(rt; fits && rows.len() == 9);
+            }
+            Err(fault) => {
+                assert!(rt; !fits && fault == ElimFault::RowBudget(0, 9));
             }
         }
     }
