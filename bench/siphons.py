@@ -7,10 +7,10 @@ A line tells the number of philosophers, the answer, the best time of RUNS runs 
 process, the building of the net included, and the most memory of a run.
 """
 import os
-import resource
 import subprocess
 import sys
-import time
+
+from measure import best
 
 CRATE = os.path.join(os.path.dirname(os.path.dirname(os.path.realpath(__file__))), "crates", "siphon_count")
 PROGRAM = os.path.join(CRATE, "out", "siphon_count")
@@ -23,13 +23,8 @@ def main():
         sys.exit(done.stderr.decode())
     print("%12s %14s %9s %8s" % ("philosophers", "answer", "seconds", "MB held"))
     for philosophers in (20, 50, 100, 200):
-        best, answer = float("inf"), ""
-        for _ in range(runs):
-            start = time.perf_counter()
-            answer = subprocess.run([PROGRAM, str(philosophers)], capture_output=True, check=True).stdout.decode().strip()
-            best = min(best, time.perf_counter() - start)
-        memory = resource.getrusage(resource.RUSAGE_CHILDREN).ru_maxrss * 1024
-        print("%12d %14s %9.4f %8.1f" % (philosophers, answer, best, memory / 1e6))
+        answer, seconds, memory = best(runs, [PROGRAM, str(philosophers)])
+        print("%12d %14s %9.4f %8.1f" % (philosophers, answer.decode().strip(), seconds, memory / 1e6))
 
 
 if __name__ == "__main__":
