@@ -6,7 +6,8 @@ import time
 
 
 def run(command, stdin=subprocess.DEVNULL):
-    """The output of the command, its time in seconds and its peak memory in bytes. The status has to be 0."""
+    """The output of the command, its time in seconds and its peak memory in bytes, which is at least that of
+    the interpreter that starts it, about 15 MB. The status has to be 0."""
     with tempfile.TemporaryFile() as out:
         start = time.perf_counter()
         child = subprocess.Popen(command, stdin=stdin, stdout=out)
