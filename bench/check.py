@@ -7,11 +7,11 @@ Each document has the most places, transitions and arcs that are allowed; its id
 tells the size, the best time of RUNS runs (by default 5), the throughput and the most memory of a run.
 """
 import os
-import resource
 import subprocess
 import sys
 import tempfile
-import time
+
+from measure import best
 
 ROOT = os.path.dirname(os.path.dirname(os.path.realpath(__file__)))
 PROGRAM = os.path.join(ROOT, "bin", "pnmlstruct")
@@ -44,20 +44,6 @@ def document(width):
     return "".join(parts).encode()
 
 
-def measured(path, runs):
-    """The best time of the runs in seconds, and the most memory of one in bytes."""
-    best = float("inf")
-    for _ in range(runs):
-        with open(path, "rb") as source:
-            start = time.perf_counter()
-            done = subprocess.run([PROGRAM, "check"], stdin=source, stdout=subprocess.PIPE, check=False)
-            best = min(best, time.perf_counter() - start)
-        wanted = b"places %d transitions %d arcs %d\n" % (PLACES, TRANSITIONS, ARCS)
-        if done.returncode != 0 or done.stdout != wanted:
-            sys.exit("check answered %d, %r" % (done.returncode, done.stdout))
-    return best, resource.getrusage(resource.RUSAGE_CHILDREN).ru_maxrss * 1024
-
-
 def main():
     runs = int(sys.argv[1]) if len(sys.argv) > 1 else 5
     subprocess.run([PROGRAM, "check"], input=b"", capture_output=True, check=False)  # builds the program
@@ -69,7 +55,9 @@ def main():
         with tempfile.NamedTemporaryFile() as file:
             file.write(data)
             file.flush()
-            seconds, memory = measured(file.name, runs)
+            output, seconds, memory = best(runs, [PROGRAM, "check"], file.name)
+        if output != b"places %d transitions %d arcs %d\n" % (PLACES, TRANSITIONS, ARCS):
+            sys.exit("check answered %r" % output)
         print("%10d %9.3f %9.0f %9.0f" % (len(data), seconds, len(data) / seconds / 1e6, memory / 1e6))
 
 

@@ -163,6 +163,29 @@ passed_settled net old mid new t taken passed size shrinks here = record {
   progress = settled_more net old mid new t taken passed.progress here;
 }
 
+settled_still : (net : Net) (old mid new : List Bool) (t u : ℕ) (taken : Bool) → MatchBool taken (IsFewer old mid) (IsSettled net old mid t) → IsSettledAt net mid new u → MatchBool taken (IsFewer old new) (IsSettled net old new t)
+settled_still net old mid new t u true before here = subst (λ set. IsFewer old set) (sym here.same) before
+settled_still net old mid new t u false before here = record {
+  same = here.same ∙ before.same;
+  closed = λ v below. subst (λ set. is_open net (has set) v ≡ false) (sym here.same) (before.closed v below);
+}
+
+-- another transition, where the set stayed
+pub still_settled : (net : Net) (old mid new : List Bool) (t u : ℕ) (taken : Bool) → IsPassed net old mid t taken → length new ≡ length mid → Shrinks net (has mid) (has new) → IsSettledAt net mid new u → IsPassed net old new t taken
+still_settled net old mid new t u taken passed size shrinks here = record {
+  size = size ∙ passed.size;
+  shrinks = shrinks_on net _ _ _ passed.shrinks shrinks;
+  progress = settled_still net old mid new t u taken passed.progress here;
+}
+
+-- another transition, where places were taken away
+pub still_taken : (net : Net) (old mid new : List Bool) (t : ℕ) (taken : Bool) → IsPassed net old mid t taken → length new ≡ length mid → Shrinks net (has mid) (has new) → IsFewer mid new → IsPassed net old new t true
+still_taken net old mid new t taken passed size shrinks less = record {
+  size = size ∙ passed.size;
+  shrinks = shrinks_on net _ _ _ passed.shrinks shrinks;
+  progress = passed_fewer old mid new taken net t passed.progress less;
+}
+
 -- the last pass
 pub greatest_from_settled : (net : Net) (first old new : List Bool) → Shrinks net (has first) (has new) → IsSettled net old new net.transitions → IsGreatestSiphon net (has first) (has new)
 greatest_from_settled net first old new shrinks settled = record {

@@ -27,8 +27,8 @@ pub fn greatest_trap(net: &FlatNet, set: &mut PlaceSet)
     greatest(Kind::Trap, net, set);
 }
 
-/// Leaves the greatest siphon of the net as it is seen. Each pass but the last takes a place away, so the
-/// work is at most the places taken away times the arcs.
+/// Leaves the greatest siphon of the net as it is seen. Each pass but the last takes a place away, and looks
+/// at each arc twice.
 fn greatest(kind: Kind, net: &FlatNet, set: &mut PlaceSet)
     requires { length set.old ≡ (net_of net.now).places }
     ensures size { length set.new ≡ length set.old }
@@ -37,7 +37,8 @@ fn greatest(kind: Kind, net: &FlatNet, set: &mut PlaceSet)
     'passes: while pass(kind, net, set) {}
 }
 
-/// Closes the set at each transition in turn. Tells whether places were taken away.
+/// Closes the set at each transition, upwards and downwards at once, so that a chain of places goes in one
+/// pass whichever way it runs. Tells whether places were taken away.
 fn pass(kind: Kind, net: &FlatNet, set: &mut PlaceSet) -> bool
     requires { length set.old ≡ (net_of net.now).places }
     ensures size { length set.new ≡ length set.old }
@@ -46,7 +47,11 @@ fn pass(kind: Kind, net: &FlatNet, set: &mut PlaceSet) -> bool
         (IsSettled (seen_as kind (net_of net.now)) set.old set.new (net_of net.now).transitions) }
 {
     let mut taken = false;
-    for t in 0..net.transitions() {
+    let count = net.transitions();
+    for t in 0..count {
+        if close(kind, net, set, count - 1 - t) {
+            taken = true;
+        }
         if close(kind, net, set, t) {
             taken = true;
         }
