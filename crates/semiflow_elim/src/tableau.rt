@@ -59,7 +59,10 @@ impl<'m> Tableau<'m> {
         self.done
     }
 
-    /// Takes the next column. A refusal leaves the tableau unchanged.
+    /// Takes the next column, with at most `rows` candidates. A refusal leaves the tableau unchanged:
+    /// first `WideSum` where a sum of a row exceeds 2^127 - 1, then `RowBudget` with the number of
+    /// candidates where there are more, then `WideRow` where an entry of a pair's combination exceeds
+    /// 2^127 - 1 before it is divided; `NoMemory` at any time.
     pub fn step(&mut self, rows: u32) -> Result<(), ElimFault>
         requires { self.old.done < (matrix_of self.old.tables).columns }
         ensures ok { OnOk result (self.new.done ≡ self.old.done + 1) }
