@@ -72,7 +72,9 @@ fn words_and_devices_end_a_run_by_their_status(rt: HostRuntime) -> Result<(), Fa
         },
         Row {
             shows: "the second read fails",
-            input: &[b"<x>", FRONT],
+            input: &[
+                b"<x>                                                                                                    ",
+            ],
             pieces: &[64],
             failing_reads: &[1],
             status: 8,
