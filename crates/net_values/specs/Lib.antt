@@ -1,9 +1,6 @@
 -- The definitions that several crates cite.
 pub mod Characters
 pub mod Items
-pub mod Canon
-pub mod Valued
-pub mod Plain
 pub mod PlaceSets
 pub mod Vectors
 pub mod TheList

@@ -7,8 +7,8 @@ use Rattle.std.proofs.lemmas.Option.{same_Some}
 use Rattle.net_values.specs.declared.document.Document.{Document}
 use Rattle.net_values.specs.declared.document.Item.{Item}
 use Rattle.net_values.specs.declared.document.Item.TheVariants.{Page, PageEnd, Place, Transition, RefPlace, RefTransition, Arc}
-use Rattle.net_values.specs.Canon.{items_text, item_text, net_text, canon, declaration, attribute, start_tag, end_tag, empty_tag, escaped, net_type, namespace}
-use Rattle.net_values.specs.Plain.{is_plain_byte}
+use Rattle.pnml_grammar.specs.Canon.{items_text, item_text, net_text, canon, declaration, attribute, start_tag, end_tag, empty_tag, escaped, net_type, namespace}
+use Rattle.pnml_grammar.specs.Plain.{is_plain_byte}
 use Rattle.pnml_decode.specs.declared.opening.TheConstants.{HEAD, NET_TYPE}
 use Rattle.pnml_decode.specs.Reading.{id_behind, opening_at}
 use Rattle.pnml_decode.specs.Readable.{IsReadId, IsReadItem, IsOpening, inner_text, page_rest}

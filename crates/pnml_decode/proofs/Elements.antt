@@ -7,8 +7,8 @@ use Rattle.std.proofs.lemmas.Option.{same_Some}
 use Rattle.std.specs.List.{prefix_len}
 use Rattle.net_values.specs.declared.document.Item.{Item}
 use Rattle.net_values.specs.declared.document.Item.TheVariants.{Page, PageEnd, Place, Transition, RefPlace, RefTransition, Arc}
-use Rattle.net_values.specs.Canon.{item_text}
-use Rattle.net_values.specs.Plain.{is_plain_byte}
+use Rattle.pnml_grammar.specs.Canon.{item_text}
+use Rattle.pnml_grammar.specs.Plain.{is_plain_byte}
 use Rattle.pnml_decode.specs.declared.item.TheConstants.{PLACE_ID, TRANSITION_ID, ARC_ID, ARC_SOURCE, ARC_TARGET, EMPTY_END, MARKING, MARKING_END, WEIGHT, WEIGHT_END}
 use Rattle.pnml_decode.specs.Reading.{behind, id_behind, end_at, place_at, transition_at, arc_at, item_at}
 use Rattle.pnml_decode.proofs.Steps.{bind_some, first_some, behind_again, behind_found}

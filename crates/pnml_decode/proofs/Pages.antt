@@ -3,7 +3,7 @@
 use Rattle.std.proofs.Common.{◌≡◌, ℕ, ◌<◌, List, [], ◌∷◌, ◌++◌, length, Some, None, refl, sym, ap, ◌∙◌, arith, length-append}
 use Rattle.std.proofs.lemmas.Option.{none-some, same_Some}
 use Rattle.net_values.specs.declared.document.Item.{Item}
-use Rattle.net_values.specs.Canon.{item_text}
+use Rattle.pnml_grammar.specs.Canon.{item_text}
 use Rattle.pnml_decode.specs.declared.page.TheConstants.{EMPTY_REST, PAGE_OPEN, CLOSE}
 use Rattle.pnml_decode.specs.Reading.{behind, id_behind, place_at, transition_at, arc_at, item_at}
 use Rattle.pnml_decode.specs.Readable.{IsReadInner, AddsItems, inner_text, page_rest}

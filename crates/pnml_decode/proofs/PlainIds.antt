@@ -9,7 +9,7 @@ use Rattle.std.proofs.lemmas.List.Elements.{recursion_from_All}
 use Rattle.std.proofs.lemmas.List.Sums.{prefix_len_passes}
 use Rattle.std.proofs.lemmas.List.Folds.{length-prefix_len}
 use Rattle.std.proofs.lemmas.Option.{cond_some}
-use Rattle.net_values.specs.Plain.{is_between, is_plain_byte, IsPlainId}
+use Rattle.pnml_grammar.specs.Plain.{is_between, is_plain_byte, IsPlainId}
 use Rattle.std.specs.Str.{IsAscii, IsUtf8}
 use Rattle.std.proofs.lemmas.Str.{IsUtf8-from_ascii}
 use Rattle.pnml_decode.specs.Readable.{IsReadId}

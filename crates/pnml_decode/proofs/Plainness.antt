@@ -4,8 +4,8 @@ use Rattle.std.specs.List.{AllByRecursion}
 use Rattle.std.proofs.lemmas.Option.{none-some, same_Some}
 use Rattle.net_values.specs.declared.document.Document.{Document}
 use Rattle.net_values.specs.declared.document.Item.{Item}
-use Rattle.net_values.specs.Canon.{canon}
-use Rattle.net_values.specs.Plain.{PlainBytes}
+use Rattle.pnml_grammar.specs.Canon.{canon}
+use Rattle.pnml_grammar.specs.Plain.{PlainBytes}
 use Rattle.pnml_decode.specs.declared.opening.TheConstants.{HEAD, NET_TYPE}
 use Rattle.pnml_decode.specs.declared.page.TheConstants.{PAGE_OPEN, CLOSE}
 use Rattle.pnml_decode.specs.Reading.{opening_at}

@@ -7,7 +7,7 @@ use Rattle.std.specs.List.{AllByRecursion}
 use Rattle.std.proofs.lemmas.List.Sums.{sum_by-append}
 use Rattle.std.proofs.lemmas.Option.{some_pair_parts, none-some}
 use Rattle.net_values.specs.declared.document.Item.{Item}
-use Rattle.net_values.specs.Canon.{item_text}
+use Rattle.pnml_grammar.specs.Canon.{item_text}
 use Rattle.net_values.specs.Items.{is_place, is_transition, is_arc}
 use Rattle.pnml_decode.specs.declared.counts.Counts.{Counts}
 use Rattle.pnml_decode.specs.Readable.{IsReadItem, IsReadInner, IsWithin, AddsItems, counts_of, counts_with, inner_text}

@@ -5,8 +5,8 @@ use Rattle.std.specs.Prelude.{IsTrue, nat_eq, codes, decimal}
 use Rattle.std.proofs.lemmas.Fmt.{decimal_nonempty}
 use Rattle.std.proofs.lemmas.Bool.{ne_eqb, eq-eqb, cases_eq, both_ways}
 use Rattle.net_values.specs.declared.document.Item.TheVariants.{Place, Transition, Arc}
-use Rattle.net_values.specs.Canon.{escape, escaped, attribute, start_tag, end_tag, empty_tag, element, label, marking_text, weight_text, item_text}
-use Rattle.net_values.specs.Plain.{is_plain_byte, IsPlainId}
+use Rattle.pnml_grammar.specs.Canon.{escape, escaped, attribute, start_tag, end_tag, empty_tag, element, label, marking_text, weight_text, item_text}
+use Rattle.pnml_grammar.specs.Plain.{is_plain_byte, IsPlainId}
 use Rattle.pnml_decode.specs.declared.item.TheConstants.{PLACE_ID, TRANSITION_ID, ARC_ID, ARC_SOURCE, ARC_TARGET, EMPTY_END, MARKING, MARKING_END, WEIGHT, WEIGHT_END}
 use Rattle.pnml_decode.proofs.Labels.{end_text}
 

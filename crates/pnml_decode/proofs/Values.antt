@@ -9,8 +9,8 @@ use Rattle.net_values.specs.declared.document.Item.{Item}
 use Rattle.net_values.specs.declared.document.Item.TheVariants.{Page, PageEnd, Place, Transition, RefPlace, RefTransition, Arc}
 use Rattle.net_values.specs.Characters.{IsId, IsIdCharacter}
 use Rattle.net_values.specs.Items.{is_page, is_place, is_transition, is_arc, is_reference}
-use Rattle.net_values.specs.Valued.{HasValuesInRange, PagesMatch, IsShallow, IsWithinLimits, IsNameIfAny, name_height}
-use Rattle.net_values.specs.Plain.{is_plain_byte, Plain, IsPlainId, IsPlainItem}
+use Rattle.pnml_grammar.specs.Valued.{HasValuesInRange, PagesMatch, IsShallow, IsWithinLimits, IsNameIfAny, name_height}
+use Rattle.pnml_grammar.specs.Plain.{is_plain_byte, Plain, IsPlainId, IsPlainItem}
 use Rattle.pnml_decode.specs.Readable.{IsReadId, IsReadItem, IsReadInner, IsWithin, counts_of}
 use Rattle.pnml_decode.proofs.PlainIds.{plain_ascii, plain_bounds}
 use Rattle.pnml_decode.proofs.Sequences.{AllByRecursion-append, count_by-append}

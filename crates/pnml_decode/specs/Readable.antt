@@ -4,9 +4,9 @@ use Rattle.std.specs.Prelude.{◌≡◌, ℕ, ◌+◌, ◌<◌, ◌≤◌, ◌^�
 use Rattle.std.specs.List.{AllByRecursion, flat_map}
 use Rattle.net_values.specs.declared.document.Item.{Item}
 use Rattle.net_values.specs.declared.document.Item.TheVariants.{Page, PageEnd, Place, Transition, Arc}
-use Rattle.net_values.specs.Canon.{item_text}
+use Rattle.pnml_grammar.specs.Canon.{item_text}
 use Rattle.net_values.specs.Items.{is_place, is_transition, is_arc}
-use Rattle.net_values.specs.Plain.{IsPlainId}
+use Rattle.pnml_grammar.specs.Plain.{IsPlainId}
 use Rattle.pnml_decode.specs.declared.counts.Counts.{Counts}
 use Rattle.pnml_decode.specs.declared.opening.TheConstants.{HEAD, NET_TYPE}
 use Rattle.pnml_decode.specs.declared.page.TheConstants.{EMPTY_REST, PAGE_OPEN, CLOSE}

@@ -7,7 +7,7 @@ use Rattle.std.specs.Str.Parse.{digits_value}
 use Rattle.std.specs.Borrow.{Bor}
 use Rattle.net_values.specs.declared.document.Item.{Item}
 use Rattle.net_values.specs.declared.document.Item.TheVariants.{Place, Transition, Arc}
-use Rattle.net_values.specs.Plain.{is_between, is_plain_byte}
+use Rattle.pnml_grammar.specs.Plain.{is_between, is_plain_byte}
 use Rattle.pnml_decode.specs.declared.opening.Opening.{Opening}
 use Rattle.pnml_decode.specs.declared.opening.TheConstants.{HEAD, NET_TYPE}
 use Rattle.pnml_decode.specs.declared.item.Written.{Written}

@@ -1,8 +1,8 @@
 ghost use Rattle.std.specs.Prelude.{◌≡◌, OnOk, IfOk, IfErr, List, ℕ};
 ghost use Rattle.net_values.specs.declared.document.Document.{Document as Tree};
 ghost use Rattle.net_values.specs.declared.document.Item.{Item as Listed};
-ghost use Rattle.net_values.specs.Canon.{canon};
-ghost use Rattle.net_values.specs.Plain.{Plain, PlainBytes, IsPlainId};
+ghost use Rattle.pnml_grammar.specs.Canon.{canon};
+ghost use Rattle.pnml_grammar.specs.Plain.{Plain, PlainBytes, IsPlainId};
 ghost use Rattle.pnml_decode.specs.Readable.{IsReadInner, IsPageOf, page_rest};
 
 use crate::fault::DocFault;

@@ -1,6 +1,6 @@
 ghost use Rattle.std.specs.Prelude.{◌≡◌, ◌≤◌, length, IfOk};
 ghost use Rattle.std.specs.List.{prefix_len};
-ghost use Rattle.net_values.specs.Plain.{is_plain_byte, IsPlainId};
+ghost use Rattle.pnml_grammar.specs.Plain.{is_plain_byte, IsPlainId};
 ghost use Rattle.pnml_decode.specs.Reading.{id_at, id_behind, seen};
 
 use crate::literal::skip;

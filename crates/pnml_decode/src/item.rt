@@ -1,5 +1,5 @@
 ghost use Rattle.std.specs.Prelude.{◌≡◌, IfOk};
-ghost use Rattle.net_values.specs.Plain.{IsPlainItem};
+ghost use Rattle.pnml_grammar.specs.Plain.{IsPlainItem};
 ghost use Rattle.pnml_decode.specs.Reading.{end_at, place_at, transition_at, arc_at, item_at, item_of, seen};
 
 use crate::ids::{id_after, text_of_id};

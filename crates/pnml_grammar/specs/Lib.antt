@@ -10,3 +10,6 @@ pub mod Tokens
 pub mod Runs
 pub mod Resolving
 pub mod Reading
+pub mod Canon
+pub mod Valued
+pub mod Plain

@@ -3,7 +3,7 @@ use Rattle.std.proofs.Common.{◌≡◌, ℕ, List, [], ◌∷◌, ◌++◌, ref
 use Rattle.std.specs.Prelude.{codes}
 use Rattle.net_values.specs.declared.document.Document.{Document}
 use Rattle.net_values.specs.declared.document.NetTree.{NetTree}
-use Rattle.net_values.specs.Canon.{escaped, attribute, start_tag, end_tag, id_attribute, name_text, items_text, net_type, namespace, net_text, declaration, canon}
+use Rattle.pnml_grammar.specs.Canon.{escaped, attribute, start_tag, end_tag, id_attribute, name_text, items_text, net_type, namespace, net_text, declaration, canon}
 use Rattle.pnml_write.specs.declared.document.TheConstants.{HEAD, NET_TYPE}
 use Rattle.pnml_write.specs.Elements.{behind_attributes}
 use Rattle.pnml_write.proofs.Labels.{element_parts}

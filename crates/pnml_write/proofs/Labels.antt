@@ -5,7 +5,7 @@ use Rattle.std.specs.Prelude.{codes, decimal, nat_eq, is_some}
 use Rattle.std.proofs.lemmas.Fmt.{decimal_nonempty}
 use Rattle.std.proofs.lemmas.Bool.{ne_eqb, eq-eqb, both_ways, false≢true, eqb-true}
 use Rattle.std.proofs.lemmas.List.{nil_from_length}
-use Rattle.net_values.specs.Canon.{escaped, start_tag, end_tag, empty_tag, element, label, name_text, marking_text, weight_text}
+use Rattle.pnml_grammar.specs.Canon.{escaped, start_tag, end_tag, empty_tag, element, label, name_text, marking_text, weight_text}
 use Rattle.pnml_write.specs.Elements.{behind_attributes}
 use Rattle.pnml_write.proofs.Pieces.{around_value, two_and_three, some_behind}
 use Rattle.pnml_write.proofs.Runs.{escape_some}

@@ -7,7 +7,7 @@ use Rattle.std.proofs.Math.Nat.{sub-zero}
 use Rattle.std.proofs.lemmas.List.Sums.{prefix_len_passes}
 use Rattle.std.proofs.lemmas.Bool.Decides.{nat_tests}
 use Rattle.std.proofs.lemmas.Bool.{ltb-false}
-use Rattle.net_values.specs.Canon.{escape, escaped}
+use Rattle.pnml_grammar.specs.Canon.{escape, escaped}
 use Rattle.pnml_write.specs.Escapes.{is_escaped}
 use Rattle.pnml_write.proofs.Pieces.{some_front}
 

@@ -4,7 +4,7 @@ use Rattle.std.proofs.Common.{◌≡◌, ◌≢◌, ℕ, List, [], ◌∷◌, �
 use Rattle.std.specs.Prelude.{codes}
 use Rattle.net_values.specs.declared.document.Item.{Item}
 use Rattle.net_values.specs.declared.document.Item.TheVariants.{Page, PageEnd, Place, Transition, RefPlace, RefTransition, Arc}
-use Rattle.net_values.specs.Canon.{start_tag, end_tag, empty_tag, element, id_attribute, name_text, item_text, items_text}
+use Rattle.pnml_grammar.specs.Canon.{start_tag, end_tag, empty_tag, element, id_attribute, name_text, item_text, items_text}
 use Rattle.pnml_write.proofs.Pieces.{some_front}
 
 element_some : (name attributes children : List ℕ) → element name attributes children ≢ []

@@ -7,7 +7,7 @@ use Rattle.net_values.specs.declared.document.TransitionNode.{TransitionNode}
 use Rattle.net_values.specs.declared.document.RefNode.{RefNode}
 use Rattle.net_values.specs.declared.document.ArcNode.{ArcNode}
 use Rattle.net_values.specs.declared.document.Item.TheVariants.{Page, PageEnd, Place, Transition, RefPlace, RefTransition, Arc}
-use Rattle.net_values.specs.Canon.{escaped, attribute, start_tag, end_tag, element, id_attribute, name_text, marking_text, weight_text, item_text}
+use Rattle.pnml_grammar.specs.Canon.{escaped, attribute, start_tag, end_tag, element, id_attribute, name_text, marking_text, weight_text, item_text}
 use Rattle.pnml_write.specs.Elements.{behind_attributes}
 use Rattle.pnml_write.proofs.Labels.{element_parts}
 

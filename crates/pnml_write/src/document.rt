@@ -1,7 +1,7 @@
 ghost use Rattle.std.specs.Prelude.{◌≡◌, ◌++◌, IfOk, OnOk, codes};
 ghost use Rattle.net_values.specs.declared.document.Document.{Document as Tree};
-ghost use Rattle.net_values.specs.Canon.{canon, name_text, items_text, net_text};
-ghost use Rattle.net_values.specs.Plain.{Plain, PlainBytes};
+ghost use Rattle.pnml_grammar.specs.Canon.{canon, name_text, items_text, net_text};
+ghost use Rattle.pnml_grammar.specs.Plain.{Plain, PlainBytes};
 ghost use Rattle.pnml_write.specs.Elements.{behind_attributes};
 
 use crate::markup::Markup;

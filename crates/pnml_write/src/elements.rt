@@ -1,5 +1,5 @@
 ghost use Rattle.std.specs.Prelude.{◌≡◌, [], ◌∷◌, ◌++◌, OnOk, codes};
-ghost use Rattle.net_values.specs.Canon.{escaped, label, name_text, marking_text, weight_text};
+ghost use Rattle.pnml_grammar.specs.Canon.{escaped, label, name_text, marking_text, weight_text};
 ghost use Rattle.pnml_write.specs.Elements.{behind_attributes};
 
 use crate::markup::Markup;

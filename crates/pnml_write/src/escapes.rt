@@ -1,6 +1,6 @@
 ghost use Rattle.std.specs.Prelude.{◌≡◌, ◌++◌, ◌<◌, length, IsTrue, IfSome, IfNone};
 ghost use Rattle.std.specs.List.{position};
-ghost use Rattle.net_values.specs.Canon.{escape, escaped};
+ghost use Rattle.pnml_grammar.specs.Canon.{escape, escaped};
 ghost use Rattle.pnml_write.specs.Escapes.{is_escaped};
 
 /// Whether a byte of a value is written as a reference.

@@ -1,5 +1,5 @@
 ghost use Rattle.std.specs.Prelude.{◌≡◌, ◌∷◌, ◌++◌, ◌<◌, IfOk, IfNone, IfSome, OnOk, length};
-ghost use Rattle.net_values.specs.Canon.{item_text, items_text};
+ghost use Rattle.pnml_grammar.specs.Canon.{item_text, items_text};
 ghost use Rattle.pnml_write.specs.Pages.{BeginsWithoutEmptyPage};
 
 use crate::markup::Markup;

@@ -1,5 +1,5 @@
 ghost use Rattle.std.specs.Prelude.{◌≡◌, [], ◌∷◌, ◌++◌, OnOk, decimal};
-ghost use Rattle.net_values.specs.Canon.{escaped};
+ghost use Rattle.pnml_grammar.specs.Canon.{escaped};
 
 use crate::escapes::split_at_escape;
 use itoa::Buffer;

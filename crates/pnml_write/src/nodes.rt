@@ -1,6 +1,6 @@
 ghost use Rattle.std.specs.Prelude.{◌≡◌, [], ◌∷◌, ◌++◌, OnOk, codes};
 ghost use Rattle.net_values.specs.declared.document.Item.TheVariants.{Page, Place, Transition, RefPlace, RefTransition, Arc};
-ghost use Rattle.net_values.specs.Canon.{escaped, element, id_attribute, name_text, marking_text, weight_text, item_text};
+ghost use Rattle.pnml_grammar.specs.Canon.{escaped, element, id_attribute, name_text, marking_text, weight_text, item_text};
 ghost use Rattle.pnml_write.specs.Elements.{behind_attributes};
 
 use crate::elements::{USUAL_MARKING, USUAL_WEIGHT};

@@ -1,8 +1,8 @@
 -- What an order gives for an input: a status and a text, or a status and its line.
 use Rattle.std.specs.Prelude.{◌≡◌, ℕ, ◌⊎◌, List}
 use Rattle.net_values.specs.declared.document.Document.{Document}
-use Rattle.net_values.specs.Canon.{canon}
-use Rattle.net_values.specs.Plain.{PlainBytes}
+use Rattle.pnml_grammar.specs.Canon.{canon}
+use Rattle.pnml_grammar.specs.Plain.{PlainBytes}
 use Rattle.struct_core.specs.declared.order.Task.{Task}
 use Rattle.struct_core.specs.declared.order.Task.TheVariants.{Check, Canon}
 use Rattle.struct_core.specs.declared.order.Order.{Order}

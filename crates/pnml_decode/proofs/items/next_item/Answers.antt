@@ -1,7 +1,7 @@
 -- What was read stood in front, and its text isn't empty.
 use Rattle.std.proofs.Common.{◌≡◌, ℕ, List, length, Option, Some, None, IfSome, sym, ap, arith, length-append}
 use Rattle.std.specs.Borrow.{Bor}
-use Rattle.net_values.specs.Canon.{item_text}
+use Rattle.pnml_grammar.specs.Canon.{item_text}
 use Rattle.pnml_decode.specs.declared.item.Written.{Written}
 use Rattle.pnml_decode.specs.Reading.{item_at, item_of, seen}
 use Rattle.pnml_decode.specs.Readable.{BeginsWithItem}

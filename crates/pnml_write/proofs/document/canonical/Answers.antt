@@ -1,7 +1,7 @@
 -- The head, the net and the last end tag with its line feed are the whole text.
 use Rattle.std.proofs.Common.{◌∙◌}
 use Rattle.std.specs.Prelude.{codes}
-use Rattle.net_values.specs.Canon.{net_text}
+use Rattle.pnml_grammar.specs.Canon.{net_text}
 use Rattle.pnml_write.specs.declared.document.TheConstants.{HEAD}
 use Rattle.pnml_write.proofs.Frames.{canon_is, three_pieces}
 use Rattle.pnml_write.proofs.document.canonical.Goals as goal

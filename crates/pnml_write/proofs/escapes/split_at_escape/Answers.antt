@@ -3,7 +3,7 @@
 use Rattle.std.proofs.Common.{◌≡◌, ℕ, get_or, sym, ap, List, ◌∙◌}
 use Rattle.std.proofs.lemmas.List.Quantifiers.{position-Some}
 use Rattle.std.proofs.lemmas.Str.{IsCharBoundary-before_ascii, IsCharBoundary-after_ascii}
-use Rattle.net_values.specs.Canon.{escape}
+use Rattle.pnml_grammar.specs.Canon.{escape}
 use Rattle.pnml_write.specs.Escapes.{is_escaped}
 use Rattle.pnml_write.proofs.Runs.{escaped_is_ascii, escaped_whole, escaped_parts, position_none}
 use Rattle.pnml_write.proofs.escapes.split_at_escape.Goals as goal

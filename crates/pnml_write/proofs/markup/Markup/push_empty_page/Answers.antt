@@ -1,6 +1,6 @@
 -- The attribute and the rest behind it are the whole element.
 use Rattle.std.specs.Prelude.{codes}
-use Rattle.net_values.specs.Canon.{name_text, element, id_attribute}
+use Rattle.pnml_grammar.specs.Canon.{name_text, element, id_attribute}
 use Rattle.pnml_write.specs.Elements.{behind_attributes}
 use Rattle.pnml_write.proofs.Pieces.{finished}
 use Rattle.pnml_write.proofs.Shapes.{quoted, empty_page_is}

@@ -1,7 +1,7 @@
 -- The end of a page is its end tag; the other items are those of the functions that are called.
 use Rattle.std.proofs.Common.{[], sym, append-nil, ap, ◌∙◌}
 use Rattle.std.specs.Prelude.{codes}
-use Rattle.net_values.specs.Canon.{item_text}
+use Rattle.pnml_grammar.specs.Canon.{item_text}
 use Rattle.pnml_write.proofs.Pieces.{finished}
 use Rattle.pnml_write.proofs.Shapes.{page_end_is}
 use Rattle.pnml_write.proofs.markup.Markup.push_item.Goals as goal

@@ -1,6 +1,6 @@
 -- What is written, and the text of the items that are left, are the whole text.
 use Rattle.std.proofs.Common.{◌≡◌, ◌++◌, length}
-use Rattle.net_values.specs.Canon.{items_text}
+use Rattle.pnml_grammar.specs.Canon.{items_text}
 use Rattle.pnml_write.proofs.markup.Markup.push_items.Given as goal
 
 abbrev pub invariant-loop-rest : goal.invariant-loop-rest

@@ -1,7 +1,7 @@
 -- A usual marking has no label; any other has one with its decimal text, which is never empty.
 use Rattle.std.proofs.Common.{append-nil, sym, ◌++◌}
 use Rattle.std.specs.Prelude.{codes, decimal}
-use Rattle.net_values.specs.Canon.{marking_text}
+use Rattle.pnml_grammar.specs.Canon.{marking_text}
 use Rattle.pnml_write.proofs.Pieces.{joined, finished}
 use Rattle.pnml_write.proofs.Labels.{marking_none, marking_full}
 use Rattle.pnml_write.proofs.markup.Markup.push_marking.Goals as goal

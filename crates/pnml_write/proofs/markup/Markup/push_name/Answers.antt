@@ -1,7 +1,7 @@
 -- An empty name is written as an empty `text`, any other as a `text` with its value.
 use Rattle.std.proofs.Common.{append-nil, sym, ◌++◌, ap, ◌∙◌, List, ℕ, []}
 use Rattle.std.specs.Prelude.{codes}
-use Rattle.net_values.specs.Canon.{label, escaped}
+use Rattle.pnml_grammar.specs.Canon.{label, escaped}
 use Rattle.pnml_write.proofs.Pieces.{joined, finished}
 use Rattle.pnml_write.proofs.Labels.{name_full, name_empty, empty_text, some_text}
 use Rattle.pnml_write.proofs.markup.Markup.push_name.Goals as goal

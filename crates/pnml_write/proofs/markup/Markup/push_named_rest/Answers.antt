@@ -1,7 +1,7 @@
 -- A name has a text, so an element with a name has children.
 use Rattle.std.proofs.Common.{◌++◌, sym}
 use Rattle.std.specs.Prelude.{codes}
-use Rattle.net_values.specs.Canon.{name_text}
+use Rattle.pnml_grammar.specs.Canon.{name_text}
 use Rattle.pnml_write.specs.Elements.{behind_attributes}
 use Rattle.pnml_write.proofs.Pieces.{joined, finished}
 use Rattle.pnml_write.proofs.Labels.{behind_full, name_some}

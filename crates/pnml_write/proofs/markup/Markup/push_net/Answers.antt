@@ -1,7 +1,7 @@
 -- The attributes and the rest behind them are the text of the net.
 use Rattle.std.proofs.Common.{◌++◌}
 use Rattle.std.specs.Prelude.{codes}
-use Rattle.net_values.specs.Canon.{name_text, items_text, net_text}
+use Rattle.pnml_grammar.specs.Canon.{name_text, items_text, net_text}
 use Rattle.pnml_write.specs.declared.document.TheConstants.{NET_TYPE}
 use Rattle.pnml_write.specs.Elements.{behind_attributes}
 use Rattle.pnml_write.proofs.Pieces.{joined, finished}

@@ -1,7 +1,7 @@
 -- Items have a text, so a net with items has children.
 use Rattle.std.proofs.Common.{◌++◌, ◌∙◌, ap}
 use Rattle.std.specs.Prelude.{codes}
-use Rattle.net_values.specs.Canon.{name_text, items_text}
+use Rattle.pnml_grammar.specs.Canon.{name_text, items_text}
 use Rattle.pnml_write.specs.Elements.{behind_attributes}
 use Rattle.pnml_write.proofs.Pieces.{joined, finished}
 use Rattle.pnml_write.proofs.Labels.{labelled}

@@ -2,7 +2,7 @@
 use Rattle.std.proofs.Common.{◌++◌}
 use Rattle.std.specs.Prelude.{codes}
 use Rattle.net_values.specs.declared.document.Item.TheVariants.{Place}
-use Rattle.net_values.specs.Canon.{name_text, marking_text, item_text}
+use Rattle.pnml_grammar.specs.Canon.{name_text, marking_text, item_text}
 use Rattle.pnml_write.specs.Elements.{behind_attributes}
 use Rattle.pnml_write.proofs.Pieces.{finished}
 use Rattle.pnml_write.proofs.Shapes.{quoted, place_is}

@@ -1,7 +1,7 @@
 -- Without a marking the name alone decides whether there are children; with one there are some.
 use Rattle.std.proofs.Common.{◌++◌, [], sym, append-nil, arith}
 use Rattle.std.specs.Prelude.{codes}
-use Rattle.net_values.specs.Canon.{name_text, marking_text}
+use Rattle.pnml_grammar.specs.Canon.{name_text, marking_text}
 use Rattle.pnml_write.specs.Elements.{behind_attributes}
 use Rattle.pnml_write.proofs.Pieces.{joined, finished}
 use Rattle.pnml_write.proofs.Labels.{unlabelled, labelled, marking_none, marking_some}

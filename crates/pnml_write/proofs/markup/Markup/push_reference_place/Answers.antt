@@ -2,7 +2,7 @@
 use Rattle.std.proofs.Common.{◌++◌}
 use Rattle.std.specs.Prelude.{codes}
 use Rattle.net_values.specs.declared.document.Item.TheVariants.{RefPlace}
-use Rattle.net_values.specs.Canon.{name_text, item_text}
+use Rattle.pnml_grammar.specs.Canon.{name_text, item_text}
 use Rattle.pnml_write.specs.Elements.{behind_attributes}
 use Rattle.pnml_write.proofs.Pieces.{joined, finished}
 use Rattle.pnml_write.proofs.Shapes.{quoted, reference_place_is}

@@ -1,7 +1,7 @@
 -- The attribute and the rest behind it are the text of the transition.
 use Rattle.std.specs.Prelude.{codes}
 use Rattle.net_values.specs.declared.document.Item.TheVariants.{Transition}
-use Rattle.net_values.specs.Canon.{name_text, item_text}
+use Rattle.pnml_grammar.specs.Canon.{name_text, item_text}
 use Rattle.pnml_write.specs.Elements.{behind_attributes}
 use Rattle.pnml_write.proofs.Pieces.{finished}
 use Rattle.pnml_write.proofs.Shapes.{quoted, transition_is}

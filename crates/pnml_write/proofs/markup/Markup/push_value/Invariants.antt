@@ -2,7 +2,7 @@
 use Rattle.std.proofs.Common.{◌≡◌, ◌++◌, length}
 use denote.Text.{Utf8}
 use denote.Shadow.{shadow}
-use Rattle.net_values.specs.Canon.{escaped}
+use Rattle.pnml_grammar.specs.Canon.{escaped}
 use Rattle.pnml_write.proofs.markup.Markup.push_value.Given as goal
 
 abbrev pub invariant-loop-run : goal.invariant-loop-run

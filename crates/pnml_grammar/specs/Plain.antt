@@ -4,8 +4,8 @@ use Rattle.std.specs.List.{AllByRecursion}
 use Rattle.net_values.specs.declared.document.Document.{Document}
 use Rattle.net_values.specs.declared.document.Item.{Item}
 use Rattle.net_values.specs.declared.document.Item.TheVariants.{Page, PageEnd, Place, Transition, Arc}
-use Rattle.net_values.specs.Canon.{canon}
-use Rattle.net_values.specs.Valued.{Valued}
+use Rattle.pnml_grammar.specs.Canon.{canon}
+use Rattle.pnml_grammar.specs.Valued.{Valued}
 
 -- from low to high
 abbrev pub is_between : ℕ → ℕ → ℕ → Bool
