@@ -11,3 +11,6 @@ pub mod ShapeLaws
 pub mod TagLaws
 pub mod MarkupLaws
 pub mod TokenLaws
+pub mod ContentLaws
+pub mod FirstLaws
+pub mod RowLaws
