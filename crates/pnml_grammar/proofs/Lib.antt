@@ -14,3 +14,5 @@ pub mod TokenLaws
 pub mod ContentLaws
 pub mod FirstLaws
 pub mod RowLaws
+pub mod ReadingTrees
+pub mod DocumentLaws

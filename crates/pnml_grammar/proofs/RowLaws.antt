@@ -109,14 +109,28 @@ tag_none state empty attributes (Some element) stands first room counted whole =
     let typed = and_parts (has_namespace element attributes) (has_type element attributes) had.0 in
     none_from (tag_rows state empty attributes (Some element)) (
       ap not typed.0,
-      (ap not typed.1,
-      (ap not had.1,
-      (none_if_empty empty (is_number_text context element) (λ e. not_number_text context element (whole e)),
-      (ap not held.1,
-      (first,
-      (none_if_empty empty (is_pnml element) (λ e. not_pnml context element (whole e)),
-      (lt-leb _ _ room,
-      count_none element state.counts counted)))))))
+      (
+        ap not typed.1,
+        (
+          ap not had.1,
+          (
+            none_if_empty empty (is_number_text context element) (λ e. not_number_text context element (whole e)),
+            (
+              ap not held.1,
+              (
+                first,
+                (
+                  none_if_empty empty (is_pnml element) (λ e. not_pnml context element (whole e)),
+                  (
+                    lt-leb _ _ room,
+                    count_none element state.counts counted,
+                  ),
+                ),
+              ),
+            ),
+          ),
+        ),
+      ),
     )
 
 tag_passed : (state : State) (empty : Bool) (attributes : List Attribute) (element : Option ElementKind) → IsWithin state.counts → first_row (tag_rows state empty attributes element) ≡ None
@@ -133,13 +147,12 @@ tag_passed state empty attributes (Some element) within e =
     let held = number.1 in
     let first = held.1 in
     let root = first.1 in
-    let room = root.1 in
-    (
+    let room = root.1 in (
       and_from _ _ (and_from _ _ (and_from _ _ (not-false _ spaced.0) (not-false _ typed.0)) (not-false _ had.0)) (not-false _ held.0),
       first.0,
       leb-false _ _ room.0,
       count_passed element state.counts within room.1,
-      λ is. whole_from element context (if_empty empty (is_number_text context element) number.0 is) (if_empty empty (is_pnml element) root.0 is)
+      λ is. whole_from element context (if_empty empty (is_number_text context element) number.0 is) (if_empty empty (is_pnml element) root.0 is),
     )
 
 -- cases on what the tag stands in
