@@ -14,6 +14,8 @@ use Rattle.pnml_grammar.specs.Contents.{Content, nothing, ◌then◌, gives, nod
 use Rattle.pnml_grammar.specs.Counts.{nodes_counts}
 use Rattle.pnml_grammar.specs.Documents.{HasFew, IsChild, EachChild, opening, Spells}
 use Rattle.pnml_grammar.specs.Machine.{State, start, run, behind_declaration, the_one, finish, reached, read}
+use Rattle.pnml_grammar.specs.FirstFault.{Spot, IsBehind, state_of}
+use Rattle.pnml_grammar.proofs.Spots.{reached_stands}
 use Rattle.pnml_grammar.proofs.ReadingTrees.{with_more, HasRoom, nodes_run}
 
 -- ---- around the root
@@ -85,3 +87,8 @@ spells_read document list spells =
     (ap behind_declaration spells.list_is ∙ behind_opening spells.declared nodes)
     (ap (run start) (sym (append-nil (nodes_tokens nodes))) ∙ nodes_run nodes start [] spells.each room)
     (ap the_one spells.one)
+
+-- ---- what is read stands for open elements
+
+pub reached_spot : (list : List Token) (state : State) → reached list ≡ Some state → (spot : Spot) × IsBehind spot list × (state_of spot ≡ state)
+reached_spot list state e = let stands = reached_stands list state e in (stands.spot, stands.behind, stands.leads)

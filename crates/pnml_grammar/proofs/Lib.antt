@@ -16,3 +16,5 @@ pub mod FirstLaws
 pub mod RowLaws
 pub mod ReadingTrees
 pub mod DocumentLaws
+pub mod LastNodes
+pub mod Spots
