@@ -50,7 +50,7 @@ legal_split xs rest ascii h =
     let both = and_parts (list_all is_legal_character (chars xs)) (list_all is_legal_character (chars rest)) (sym (list_all-append is_legal_character (chars xs) (chars rest)) ∙ all) in
     (legal_from xs (is_utf8-from_IsUtf8 xs cut.0) both.0, legal_from rest (is_utf8-from_IsUtf8 rest cut.1) both.1)
 
-legal_join : (xs ys : List ℕ) → IsLegalText xs → IsLegalText ys → IsLegalText (xs ++ ys)
+pub legal_join : (xs ys : List ℕ) → IsLegalText xs → IsLegalText ys → IsLegalText (xs ++ ys)
 legal_join xs ys hx hy =
     let ux = legal_utf8 xs hx in
     let uy = legal_utf8 ys hy in
@@ -73,7 +73,7 @@ legal_behind b bs ascii h =
     let both = and_parts (list_all is_legal_character (chars (b ∷ []))) (list_all is_legal_character (chars bs)) (sym (list_all-append is_legal_character (chars (b ∷ [])) (chars bs)) ∙ all) in
     legal_from bs (is_utf8-from_IsUtf8 bs text) both.1
 
-legal_nothing : IsLegalText []
+pub legal_nothing : IsLegalText []
 legal_nothing = ([], tt, refl)
 
 legal_one : (c : ℕ) → IsLegalCharacter c → IsLegalText (encode_utf8 c)

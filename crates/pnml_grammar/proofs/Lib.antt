@@ -11,4 +11,8 @@ pub mod ShapeLaws
 pub mod TagLaws
 pub mod MarkupLaws
 pub mod TokenLaws
+pub mod EachLaws
 pub mod LegalLaws
+pub mod ValuedTrees
+pub mod ValuedIds
+pub mod ValuedRanges
