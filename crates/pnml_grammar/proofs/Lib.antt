@@ -16,3 +16,7 @@ pub mod LegalLaws
 pub mod ValuedTrees
 pub mod ValuedIds
 pub mod ValuedRanges
+pub mod ValuedPages
+pub mod ValuedHeights
+pub mod ValuedCounts
+pub mod ValuedLaws
