@@ -1,5 +1,6 @@
 -- Reading gives what is spelled: for each part a law that what is spelled so is read so, whatever follows,
 -- and a law that what is read is spelled so.
+pub mod EachLaws
 pub mod RunLaws
 pub mod PartLaws
 pub mod ReferenceLaws
@@ -11,7 +12,6 @@ pub mod ShapeLaws
 pub mod TagLaws
 pub mod MarkupLaws
 pub mod TokenLaws
-pub mod EachLaws
 pub mod LegalLaws
 pub mod ValuedTrees
 pub mod ValuedIds
@@ -20,3 +20,5 @@ pub mod ValuedPages
 pub mod ValuedHeights
 pub mod ValuedCounts
 pub mod ValuedLaws
+pub mod ValuedWalks
+pub mod ValuedTestLaws
