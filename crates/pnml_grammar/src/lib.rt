@@ -17,3 +17,6 @@ pub use legal::{is_legal_character, is_legal_text};
 pub use reason::{Counted, Reason};
 pub use token::{Attribute, Attributes, Token};
 pub use valued::is_valued;
+
+#[cfg(test)]
+mod tests;
