@@ -1,5 +1,6 @@
 -- Reading gives what is spelled: for each part a law that what is spelled so is read so, whatever follows,
 -- and a law that what is read is spelled so.
+pub mod EachLaws
 pub mod RunLaws
 pub mod PartLaws
 pub mod ReferenceLaws
@@ -12,7 +13,6 @@ pub mod TagLaws
 pub mod MarkupLaws
 pub mod TokenLaws
 pub mod PlaceLaws
-pub mod EachLaws
 pub mod LegalLaws
 pub mod ValuedTrees
 pub mod ValuedIds
@@ -30,3 +30,5 @@ pub mod Spots
 pub mod Endings
 pub mod DocumentLaws
 pub mod Missing
+pub mod ValuedWalks
+pub mod ValuedTestLaws

@@ -12,6 +12,7 @@ pub mod Resolving
 pub mod Reading
 pub mod Canon
 pub mod Valued
+pub mod ValuedTests
 pub mod Plain
 pub mod Elements
 pub mod Numerals

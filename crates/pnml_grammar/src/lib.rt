@@ -5,10 +5,18 @@
 
 mod element;
 mod law;
+mod legal;
 mod reason;
 mod token;
+mod valued;
+mod walk;
 
 pub use element::{AttributeKind, Context, ElementKind};
 pub use law::{one_document, one_token};
+pub use legal::{is_legal_character, is_legal_text};
 pub use reason::{Counted, Reason};
 pub use token::{Attribute, Attributes, Token};
+pub use valued::is_valued;
+
+#[cfg(test)]
+mod tests;
