@@ -11,3 +11,4 @@ pub mod ShapeLaws
 pub mod TagLaws
 pub mod MarkupLaws
 pub mod TokenLaws
+pub mod EscapeLaws
