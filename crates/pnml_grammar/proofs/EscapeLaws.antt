@@ -17,7 +17,9 @@ use Rattle.pnml_grammar.specs.References.IsReference.{less_than, greater_than, a
 use Rattle.pnml_grammar.specs.Resolving.{is_legal_character}
 use Rattle.pnml_grammar.specs.Values.{lines_ended_behind, lines_ended, spaced, Resolves}
 use Rattle.pnml_grammar.specs.Values.Resolves.{nothing, byte, reference}
+use Rattle.pnml_grammar.proofs.RunLaws.{some_is}
 use Rattle.pnml_grammar.proofs.ReferenceLaws.{legal_is}
+use Rattle.pnml_grammar.proofs.ValueLaws.{resolves_is}
 
 -- ---- texts
 
@@ -70,8 +72,9 @@ fine_at (suc n) e b h =
 all_fine : fine_below 128 ≡ true
 all_fine = refl
 
-escape_high : (b : ℕ) → 128 ≤ b → escape b ≡ b ∷ []
-escape_high b high =
+-- a byte that stands as it is
+pub escape_plain : (b : ℕ) → (not (b == 38) && is_clean b) ≡ true → escape b ≡ b ∷ []
+escape_plain b plain =
     let e0 : (b == 38) ≡ false = grind (arith, nat_tests) in
     let e1 : (b == 60) ≡ false = grind (arith, nat_tests) in
     let e2 : (b == 62) ≡ false = grind (arith, nat_tests) in
@@ -80,6 +83,11 @@ escape_high b high =
     let e5 : (b == 10) ≡ false = grind (arith, nat_tests) in
     let e6 : (b == 13) ≡ false = grind (arith, nat_tests) in
     rw (e0, e1, e2, e3, e4, e5, e6) refl
+
+escape_high : (b : ℕ) → 128 ≤ b → escape b ≡ b ∷ []
+escape_high b high =
+    let plain : (not (b == 38) && is_clean b) ≡ true = grind (arith, nat_tests) in
+    escape_plain b plain
 
 high_fine : (b : ℕ) → 128 ≤ b → is_fine (b ∷ []) ≡ true
 high_fine b high =
@@ -154,6 +162,13 @@ pub escaped_resolves : (value : List ℕ) → Resolves (escaped value) value
 unfolding escaped
 escaped_resolves [] = nothing
 escaped_resolves (b ∷ bs) = escape_back (escaped bs) bs (escaped_resolves bs) b
+
+some_resolves : (text value : List ℕ) → Resolves text value → 1 ≤ length value → 1 ≤ length text
+some_resolves [] value is some = omega (arith, some, ap length (some_is [] value (resolves_is [] value is)))
+some_resolves (b ∷ bs) value is some = omega arith
+
+pub escaped_some : (value : List ℕ) → 1 ≤ length value → 1 ≤ length (escaped value)
+escaped_some value some = some_resolves (escaped value) value (escaped_resolves value) some
 
 -- nothing but references is resolved
 clean_lines : (bytes : List ℕ) → Each is_clean bytes → lines_ended bytes ≡ bytes

@@ -12,3 +12,8 @@ pub mod TagLaws
 pub mod MarkupLaws
 pub mod TokenLaws
 pub mod EscapeLaws
+pub mod CanonTokens
+pub mod CanonPieces
+pub mod CanonElements
+pub mod NumeralLaws
+pub mod CanonSpelling
