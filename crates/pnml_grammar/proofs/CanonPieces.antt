@@ -32,7 +32,7 @@ Follow bytes (token ∷ list) rest = (spelling next : List ℕ) × Stands bytes 
 abbrev pub Writes : List ℕ → List Token → Type 0
 Writes text list = (rest : List ℕ) → Follow (text ++ rest) list rest
 
-follow_join : (xs ys : List Token) (bytes middle rest : List ℕ) → Follow bytes xs middle → Follow middle ys rest → Follow bytes (xs ++ ys) rest
+pub follow_join : (xs ys : List Token) (bytes middle rest : List ℕ) → Follow bytes xs middle → Follow middle ys rest → Follow bytes (xs ++ ys) rest
 follow_join [] ys bytes middle rest first second = subst (λ (t : List ℕ). Follow t ys rest) (sym first) second
 follow_join (x ∷ xs) ys bytes middle rest first second = (first.0, first.1, first.2, follow_join xs ys first.1 middle rest first.3 second)
 
@@ -72,8 +72,8 @@ follow_to (token ∷ list) bytes k inside all =
       follow_to list bytes (k + length spelling) within (subst (λ (t : List ℕ). Follow t list []) (sym behind) all.3),
     )
 
-pub writes_to : (bytes : List ℕ) (list : List Token) → Writes bytes list → TokensTo bytes 0 list (length bytes)
-writes_to bytes list writes = follow_to list bytes 0 (omega arith) (subst (λ (t : List ℕ). Follow t list []) (append-nil bytes) (writes []))
+pub follow_whole : (bytes : List ℕ) (list : List Token) → Follow bytes list [] → TokensTo bytes 0 list (length bytes)
+follow_whole bytes list follow = follow_to list bytes 0 (omega arith) follow
 
 -- ---- names
 

@@ -81,6 +81,5 @@ net_tokens net =
 -- the line feed behind the root is a text of its own
 unfoldable pub canon_tokens : Document → List Token
 canon_tokens document =
-    tokens.Declaration
-    ∷ tokens.Start (codes "pnml") (namespace_of ∷ [])
-    ∷ (net_tokens document.net ++ (tokens.End (codes "pnml") ∷ tokens.Characters (10 ∷ []) ∷ []))
+    tokens.Declaration ∷ [] ++ tokens.Start (codes "pnml") (namespace_of ∷ []) ∷ [] ++ net_tokens document.net
+    ++ tokens.End (codes "pnml") ∷ [] ++ tokens.Characters (10 ∷ []) ∷ []
