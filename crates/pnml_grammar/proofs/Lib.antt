@@ -17,3 +17,4 @@ pub mod CanonPieces
 pub mod CanonElements
 pub mod NumeralLaws
 pub mod CanonSpelling
+pub mod MachineRuns
