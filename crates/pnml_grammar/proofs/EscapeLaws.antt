@@ -215,7 +215,7 @@ printed_escape : (c : ℕ) → c < 128 → IsLegalCharacter c → is_printed (es
 printed_escape c small legal = sym (ap (λ t. not t || is_printed (escape c)) (legal_is c legal)) ∙ printed_at 128 all_printed c small
 
 -- the bytes of a character from 128 on
-high_bytes : (c : ℕ) → 128 ≤ c → (k : ℕ) → k < length (encode_utf8 c) → 128 ≤ get_or (encode_utf8 c) k 0
+pub high_bytes : (c : ℕ) → 128 ≤ c → (k : ℕ) → k < length (encode_utf8 c) → 128 ≤ get_or (encode_utf8 c) k 0
 high_bytes c high k below = elim (cases_lt (get_or (encode_utf8 c) k 0) 128) [
   | inl low ↦ absurd (omega (arith, inside_one c [] (encode_utf8 c) k (sym (append-nil _)) below low))
   | inr h ↦ h

@@ -18,3 +18,4 @@ pub mod CanonElements
 pub mod NumeralLaws
 pub mod CanonSpelling
 pub mod MachineRuns
+pub mod CanonTags
