@@ -102,7 +102,7 @@ unfolding has_namespace has_type has_attributes fits has_needed attribute_named 
 pnml_attributes = record { namespace = refl; type = refl; fitting = refl }
 
 -- an element of a label
-abbrev is_label : ElementKind → Bool
+abbrev pub is_label : ElementKind → Bool
 is_label elements.Name = true
 is_label elements.InitialMarking = true
 is_label elements.Inscription = true
@@ -204,7 +204,7 @@ module _ (top : Frame) (under : List Frame) (counts : Counts) (name : List ℕ) 
       rw (context, counted) refl
 
   -- a child that may be an empty tag, by what its children lead to
-  pub leads_child : (children : List Token) (content : Content) → is_number_text top.context element ≡ false → is_pnml element ≡ false
+  pub leads_child : (children : List Token) (content : Content) → (children ≡ [] → is_number_text top.context element ≡ false) → is_pnml element ≡ false
       → Leads (inside top under counts name attributes element nothing) children (inside top under counts name attributes element content)
       → IsTaken (inside top under counts name attributes element content) (tokens.End name)
       → Leads now (element_tokens name attributes children)
@@ -212,6 +212,6 @@ module _ (top : Frame) (under : List Frame) (counts : Counts) (name : List ℕ) 
   leads_child children content text root runs ends =
       leads_element now (inside top under counts name attributes element content) name attributes children
       (start_taken top under counts name attributes element free has)
-      (empty_taken top under counts name attributes element free has text root)
+      (λ none. empty_taken top under counts name attributes element free has (text none) root)
       (subst (λ state. Leads state children (inside top under counts name attributes element content)) (sym opened_is) runs)
       ends

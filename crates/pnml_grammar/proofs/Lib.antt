@@ -19,3 +19,5 @@ pub mod NumeralLaws
 pub mod CanonSpelling
 pub mod MachineRuns
 pub mod CanonTags
+pub mod CanonLabels
+pub mod CanonItems

@@ -37,12 +37,12 @@ leads_token state token taken = record { whatever = λ rest. run_taken state tok
 
 -- a whole element
 pub leads_element : (before inside : State) (name : List ℕ) (attributes : List Attribute) (children : List Token)
-    → IsTaken before (tokens.Start name attributes) → IsTaken before (tokens.Empty name attributes)
+    → IsTaken before (tokens.Start name attributes) → (children ≡ [] → IsTaken before (tokens.Empty name attributes))
     → Leads (open_element before name attributes) children inside → IsTaken inside (tokens.End name)
     → Leads before (element_tokens name attributes children) (close_element inside)
 leads_element before inside name attributes [] starts empties runs ends =
     let same : open_element before name attributes ≡ inside = some_is _ _ (runs.whatever []) in
-    subst (λ state. Leads before (tokens.Empty name attributes ∷ []) (close_element state)) same (leads_token before (tokens.Empty name attributes) empties)
+    subst (λ state. Leads before (tokens.Empty name attributes ∷ []) (close_element state)) same (leads_token before (tokens.Empty name attributes) (empties refl))
 leads_element before inside name attributes (t ∷ ts) starts empties runs ends =
     let opened = leads_on before (open_element before name attributes) inside (tokens.Start name attributes ∷ []) (t ∷ ts) (leads_token before (tokens.Start name attributes) starts) runs in
     leads_on before inside (close_element inside) (tokens.Start name attributes ∷ (t ∷ ts)) (tokens.End name ∷ []) opened (leads_token inside (tokens.End name) ends)
