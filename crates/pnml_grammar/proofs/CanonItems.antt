@@ -38,6 +38,12 @@ kind_of (RefPlace node) = elements.ReferencePlace
 kind_of (RefTransition node) = elements.ReferenceTransition
 kind_of (Arc arc) = elements.Arc
 
+-- an item that is no start or end of a page
+abbrev pub IsNode : Item → Type 0
+IsNode (Page page) = ⊥
+IsNode PageEnd = ⊥
+IsNode _ = Unit
+
 -- what holds items
 abbrev pub IsHolder : Context → Type 0
 IsHolder contexts.Net = Unit
@@ -251,12 +257,6 @@ module _ (top : Frame) (under : List Frame) (counts : Counts) (holds : IsHolder 
       (leads_child top under counts (codes "page") attributes elements.Page (page_free page is room within) (page_attributes page.id is.0)
       (name_tokens page.name) (named page.name) (λ e. holder_no_text top.context elements.Page holds) refl
       (page_named page is room) refl)
-
-  -- an item that is no part of a page's frame
-  abbrev pub IsNode : Item → Type 0
-  IsNode (Page page) = ⊥
-  IsNode PageEnd = ⊥
-  IsNode _ = Unit
 
   pub node_reads : (item : Item) → IsNode item → Reads item
   node_reads (Page page) node = absurd node

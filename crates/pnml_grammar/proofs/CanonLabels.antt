@@ -21,7 +21,7 @@ use Rattle.pnml_grammar.proofs.CanonTokens.{value_tokens, element_tokens, label_
 use Rattle.pnml_grammar.proofs.MachineRuns.{Leads, leads_nowhere, leads_token, IsTaken}
 use Rattle.pnml_grammar.proofs.CanonTags.{is_label, label_attributes, is_read, IsFree, inside, leads_child}
 
-counts_are : (a b c d e a' b' c' d' e' : ℕ) → a ≡ a' → b ≡ b' → c ≡ c' → d ≡ d' → e ≡ e'
+pub counts_are : (a b c d e a' b' c' d' e' : ℕ) → a ≡ a' → b ≡ b' → c ≡ c' → d ≡ d' → e ≡ e'
     → ◌≡◌ {A = Counts} (record { places = a; transitions = b; arcs = c; references = d; pages = e }) (record { places = a'; transitions = b'; arcs = c'; references = d'; pages = e' })
 counts_are a b c d e a' b' c' d' e' p q r s t = λ i. record { places = p i; transitions = q i; arcs = r i; references = s i; pages = t i }
 

@@ -21,3 +21,4 @@ pub mod MachineRuns
 pub mod CanonTags
 pub mod CanonLabels
 pub mod CanonItems
+pub mod CanonPages
