@@ -86,7 +86,7 @@ holder_no_text _ element holds = absurd holds
 
 -- ---- what is read of an item is the item
 
-first_named : (name : Option (List ℕ)) → first_value (names_of name) ≡ name
+pub first_named : (name : Option (List ℕ)) → first_value (names_of name) ≡ name
 first_named None = refl
 first_named (Some name) = refl
 

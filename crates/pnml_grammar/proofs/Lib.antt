@@ -22,3 +22,4 @@ pub mod CanonTags
 pub mod CanonLabels
 pub mod CanonItems
 pub mod CanonPages
+pub mod CanonReading
