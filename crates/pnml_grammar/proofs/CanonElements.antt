@@ -1,27 +1,19 @@
 -- Elements and labels of the canonical text: the tokens stand in their text. An element has a child in the
 -- text just where it has one among the tokens, since no spelling is empty.
-use Rattle.std.proofs.Common.{◌≡◌, ◌≢◌, ℕ, ◌+◌, ◌*◌, ◌<◌, ◌≤◌, ◌^◌, Bool, true, false, cond, List, [], ◌∷◌, ◌++◌, length, length-append, refl, sym, ap, subst, ◌∙◌, arith, append_assoc, append-nil, Option, Some, None}
-use Rattle.std.specs.Prelude.{◌==◌, ◌&&◌, codes, decimal}
-use Rattle.std.specs.List.{list_all}
-use Rattle.std.specs.Str.Parse.{digits_value}
-use Rattle.std.proofs.lemmas.Bool.{and_parts, and_from}
+use Rattle.std.proofs.Common.{◌≡◌, ℕ, ◌≤◌, true, List, [], ◌∷◌, ◌++◌, length, length-append, refl, sym, ap, subst, arith, append_assoc}
+use Rattle.std.specs.Prelude.{codes}
 use Rattle.std.proofs.lemmas.Bool.Decides.{nat_tests}
-use Rattle.std.proofs.lemmas.Fmt.{decimal_by_steps, decimal_is_IsNumeral, decimal_nonempty, length-decimal-le}
-use Rattle.std.proofs.lemmas.List.Folds.{list_all-append}
 use Rattle.net_values.specs.Characters.{IsLegalText}
 use Rattle.pnml_grammar.specs.declared.token.Attribute.{Attribute}
 use Rattle.pnml_grammar.specs.declared.token.Token.{Token}
 use Rattle.pnml_grammar.specs.declared.token.Token.TheVariants as tokens
-use Rattle.pnml_grammar.specs.Characters.{Each, Without, is_between, is_space}
-use Rattle.pnml_grammar.specs.Numerals.{is_digit, numeral}
+use Rattle.pnml_grammar.specs.Characters.{Each, Without}
 use Rattle.pnml_grammar.specs.Values.{Resolves}
-use Rattle.pnml_grammar.specs.Tokens.{IsSpelling, IsCharacters, is_text_byte, spelling_limit}
-use Rattle.pnml_grammar.specs.Canon.{escape, escaped, start_tag, end_tag, empty_tag, element, label}
-use Rattle.pnml_grammar.specs.Runs.{passed, behind}
-use Rattle.pnml_grammar.proofs.RunLaws.{passed_is, behind_is}
-use Rattle.pnml_grammar.proofs.EscapeLaws.{is_printed, printed_text, is_clean, escaped_clean, escaped_short, escaped_resolves, escaped_lines, escaped_legal, escaped_some}
+use Rattle.pnml_grammar.specs.Tokens.{IsSpelling, is_text_byte}
+use Rattle.pnml_grammar.specs.Canon.{escaped, start_tag, end_tag, element, label}
+use Rattle.pnml_grammar.proofs.EscapeLaws.{is_clean, escaped_clean, escaped_short, escaped_resolves, escaped_lines, escaped_legal, escaped_some}
 use Rattle.pnml_grammar.proofs.CanonTokens.{element_tokens, value_tokens, label_tokens}
-use Rattle.pnml_grammar.proofs.CanonPieces.{Follow, Writes, writes_join, writes_nothing, IsPiece, piece_stands, IsWord, word, ArePlain, attributes_text, start_writes, empty_writes, end_writes}
+use Rattle.pnml_grammar.proofs.CanonPieces.{Follow, Writes, writes_join, IsPiece, piece_stands, IsWord, word, ArePlain, attributes_text, start_writes, empty_writes, end_writes}
 
 -- ---- no spelling is empty
 

@@ -1,9 +1,8 @@
 -- The items of the canonical text: the tokens of one lead the open net or page to the same with the item
 -- behind those that it has.
-use Rattle.std.proofs.Common.{◌≡◌, ℕ, ◌+◌, ◌<◌, ◌≤◌, ◌^◌, Bool, true, false, cond, List, [], ◌∷◌, ◌++◌, Option, Some, None, length, refl, sym, ap, subst, ◌∙◌, arith}
+use Rattle.std.proofs.Common.{◌≡◌, ℕ, ◌+◌, ◌<◌, ◌≤◌, Bool, true, false, cond, List, [], ◌∷◌, ◌++◌, Option, Some, None, length, refl, sym, subst, arith}
 use Rattle.std.specs.Prelude.{◌==◌, ◌||◌, codes, unwrap_or}
 use Rattle.std.proofs.lemmas.Bool.{eqb-true}
-use Rattle.net_values.specs.Characters.{IsId}
 use Rattle.net_values.specs.declared.document.PageNode.{PageNode}
 use Rattle.net_values.specs.declared.document.PlaceNode.{PlaceNode}
 use Rattle.net_values.specs.declared.document.TransitionNode.{TransitionNode}
@@ -15,18 +14,16 @@ use Rattle.pnml_grammar.specs.declared.element.ElementKind.{ElementKind}
 use Rattle.pnml_grammar.specs.declared.element.ElementKind.TheVariants as elements
 use Rattle.pnml_grammar.specs.declared.element.Context.{Context}
 use Rattle.pnml_grammar.specs.declared.element.Context.TheVariants as contexts
-use Rattle.pnml_grammar.specs.declared.token.Attribute.{Attribute}
-use Rattle.pnml_grammar.specs.declared.token.Token.{Token}
 use Rattle.pnml_grammar.specs.declared.token.Token.TheVariants as tokens
 use Rattle.pnml_grammar.specs.Elements.{element_names, element_kinds, element_named, is_name, is_node_or_page, is_skipped, may_hold}
-use Rattle.pnml_grammar.specs.Contents.{Content, nothing, ◌then◌, gives, one_item, first_value}
-use Rattle.pnml_grammar.specs.Counts.{Counts, no_counts, ◌plus◌, counts_of_kind, IsWithin}
-use Rattle.pnml_grammar.specs.Valued.{IsNameIfAny, HasValuesInRange, name_height, item_height}
+use Rattle.pnml_grammar.specs.Contents.{Content, nothing, one_item, first_value}
+use Rattle.pnml_grammar.specs.Counts.{Counts, ◌plus◌, counts_of_kind, IsWithin}
+use Rattle.pnml_grammar.specs.Valued.{HasValuesInRange, name_height, item_height}
 use Rattle.pnml_grammar.specs.Machine.{Frame, State, is_second, is_number_text, receive}
 use Rattle.pnml_grammar.proofs.CanonTokens.{element_tokens, id_of, ref_of, source_of, target_of, name_tokens, marking_tokens, weight_tokens, item_tokens}
-use Rattle.pnml_grammar.proofs.MachineRuns.{Leads, leads_on, leads_token, IsTaken}
+use Rattle.pnml_grammar.proofs.MachineRuns.{Leads, leads_on, leads_token}
 use Rattle.pnml_grammar.proofs.CanonTags.{is_read, IsFree, counted_room, inside, start_taken, opened_is, leads_child, page_attributes, place_attributes, transition_attributes, ref_place_attributes, ref_transition_attributes, arc_attributes}
-use Rattle.pnml_grammar.proofs.CanonLabels.{named, names_of, frame, numbered, with_number, name_leads, marking_leads, weight_leads}
+use Rattle.pnml_grammar.proofs.CanonLabels.{named, names_of, frame, numbered, name_leads, marking_leads, weight_leads}
 
 -- the kind of an item's element
 abbrev pub kind_of : Item → ElementKind

@@ -1,23 +1,22 @@
 -- All items of the canonical text, by induction on the flat items with the list of open pages as data: an open
 -- page holds the items that have stood on it, and the whole is what the net has when each of them is closed.
-use Rattle.std.proofs.Common.{◌≡◌, ℕ, suc, ◌+◌, ◌-◌, ◌<◌, ◌≤◌, Bool, true, false, cond, List, [], ◌∷◌, ◌++◌, Option, Some, None, length, refl, sym, ap, subst, ◌∙◌, arith, append_assoc, append-nil}
+use Rattle.std.proofs.Common.{◌≡◌, ℕ, ◌+◌, ◌-◌, ◌≤◌, cond, List, [], ◌∷◌, ◌++◌, Option, length, refl, sym, ap, subst, ◌∙◌, arith, append_assoc, append-nil}
 use Rattle.std.specs.Prelude.{codes, count_by}
 use Rattle.std.specs.List.{AllByRecursion}
 use Rattle.std.proofs.lemmas.List.Sums.{sum_by-cons}
 use Rattle.net_values.specs.Items.{is_page, is_place, is_transition, is_arc, is_reference}
 use Rattle.net_values.specs.declared.document.PageNode.{PageNode}
 use Rattle.net_values.specs.declared.document.Item.{Item}
-use Rattle.net_values.specs.declared.document.Item.TheVariants.{Page, PageEnd, Place, Transition, RefPlace, RefTransition, Arc}
+use Rattle.net_values.specs.declared.document.Item.TheVariants.{Page, PageEnd}
 use Rattle.pnml_grammar.specs.declared.element.Context.TheVariants as contexts
-use Rattle.pnml_grammar.specs.declared.token.Attribute.{Attribute}
 use Rattle.pnml_grammar.specs.declared.token.Token.{Token}
-use Rattle.pnml_grammar.specs.Contents.{Content, nothing}
+use Rattle.pnml_grammar.specs.Contents.{nothing}
 use Rattle.pnml_grammar.specs.Counts.{Counts, no_counts, ◌plus◌, counts_of_kind, IsWithin}
 use Rattle.pnml_grammar.specs.Valued.{HasValuesInRange, item_height, PagesMatch, IsShallow}
 use Rattle.pnml_grammar.specs.Machine.{Frame, State, outermost, receive}
 use Rattle.pnml_grammar.proofs.CanonTokens.{element_tokens, id_of, type_of, namespace_of, name_tokens, item_tokens, items_tokens}
 use Rattle.pnml_grammar.proofs.MachineRuns.{Leads, leads_nowhere, leads_on}
-use Rattle.pnml_grammar.proofs.CanonLabels.{plus_assoc, plus_none, counts_are, names_of, named, frame}
+use Rattle.pnml_grammar.proofs.CanonLabels.{plus_none, counts_are, names_of, named, frame}
 use Rattle.pnml_grammar.proofs.CanonItems.{kind_of, IsHolder, IsNode, node_reads, page_opens, empty_page_reads, page_closes}
 
 -- ---- counts

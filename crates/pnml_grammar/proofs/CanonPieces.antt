@@ -1,8 +1,8 @@
 -- The pieces of the canonical text: the tokens of each stand one behind the other, whatever follows. Values
 -- are escaped, so their bytes end no tag and no text, and a spelling is at most six times as long as what it
 -- is written for.
-use Rattle.std.proofs.Common.{◌≡◌, ◌≢◌, ℕ, ◌+◌, ◌*◌, ◌<◌, ◌≤◌, Bool, true, false, List, [], ◌∷◌, ◌++◌, map, length, drop, length-append, refl, sym, ap, subst, ◌∙◌, arith, append_assoc, append-nil, inl, inr}
-use Rattle.std.specs.Prelude.{◌==◌, ◌&&◌, not, nat_le, codes}
+use Rattle.std.proofs.Common.{◌≡◌, ℕ, ◌+◌, ◌*◌, ◌≤◌, Bool, true, false, List, [], ◌∷◌, ◌++◌, map, length, drop, length-append, refl, sym, ap, subst, ◌∙◌, arith, append_assoc, inl}
+use Rattle.std.specs.Prelude.{◌&&◌, nat_le, codes}
 use Rattle.std.specs.List.{AllByRecursion, AllZip, list_all, flat_map}
 use Rattle.std.proofs.lemmas.Bool.{and_parts, leb-true}
 use Rattle.std.proofs.lemmas.Bool.Decides.{nat_tests}
@@ -11,15 +11,15 @@ use Rattle.net_values.specs.Characters.{IsLegalText}
 use Rattle.pnml_grammar.specs.declared.token.Attribute.{Attribute}
 use Rattle.pnml_grammar.specs.declared.token.Token.{Token}
 use Rattle.pnml_grammar.specs.declared.token.Token.TheVariants as tokens
-use Rattle.pnml_grammar.specs.Characters.{Each, Without, is_between, is_space}
+use Rattle.pnml_grammar.specs.Characters.{Each}
 use Rattle.pnml_grammar.specs.Names.{IsName, is_name_start, is_name_byte}
-use Rattle.pnml_grammar.specs.Values.{lines_ended, Resolves}
+use Rattle.pnml_grammar.specs.Values.{Resolves}
 use Rattle.pnml_grammar.specs.Attributes.{Written, written, IsWritten, IsAttribute, HaveDistinctNames, is_value_byte}
-use Rattle.pnml_grammar.specs.Tags.{IsTag, IsEndTag}
-use Rattle.pnml_grammar.specs.Tokens.{IsSpelling, IsCharacters, is_text_byte, IsTextEnd, MayFollow, Stands, TokenAt, TokensTo, spelling_limit}
-use Rattle.pnml_grammar.specs.Canon.{escaped, attribute, start_tag, end_tag, empty_tag, element}
-use Rattle.pnml_grammar.proofs.EscapeLaws.{legal_join, is_printed, printed_text, is_clean, escaped_clean, escaped_short, escaped_resolves, escaped_lines, escaped_spaced, escaped_legal}
-use Rattle.pnml_grammar.proofs.CanonTokens.{element_tokens, value_tokens}
+use Rattle.pnml_grammar.specs.Tags.{IsTag}
+use Rattle.pnml_grammar.specs.Tokens.{IsSpelling, MayFollow, Stands, TokensTo, spelling_limit}
+use Rattle.pnml_grammar.specs.Canon.{escaped, start_tag, end_tag, empty_tag}
+use Rattle.pnml_grammar.proofs.LegalLaws.{legal_join, legal_nothing}
+use Rattle.pnml_grammar.proofs.EscapeLaws.{is_printed, printed_text, is_clean, escaped_clean, escaped_short, escaped_resolves, escaped_spaced, escaped_legal}
 
 -- ---- tokens one behind the other
 
@@ -159,7 +159,7 @@ attribute_legal a is =
     (legal_join (escaped a.value) (34 ∷ []) (escaped_legal a.value is.value) quote_legal)))
 
 attributes_legal : (attributes : List Attribute) → AllByRecursion IsPlainAttribute attributes → IsLegalText (attributes_text attributes)
-attributes_legal [] each = ([], tt, refl)
+attributes_legal [] each = legal_nothing
 attributes_legal (a ∷ attributes) each =
     legal_join (written (written_attribute a)) (attributes_text attributes) (attribute_legal a each.0) (attributes_legal attributes each.1)
 

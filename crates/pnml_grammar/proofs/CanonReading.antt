@@ -1,27 +1,24 @@
 -- The tokens of the canonical text are read as the document: the items within the net, the net within the root.
-use Rattle.std.proofs.Common.{◌≡◌, ℕ, ◌+◌, ◌<◌, ◌≤◌, Bool, true, false, List, [], ◌∷◌, ◌++◌, Option, Some, None, length, refl, sym, ap, subst, ◌∙◌, arith, append-nil}
+use Rattle.std.proofs.Common.{◌≡◌, ℕ, ◌≤◌, List, [], ◌∷◌, ◌++◌, Option, Some, None, refl, sym, ap, subst, ◌∙◌, arith, append-nil}
 use Rattle.std.specs.Prelude.{codes}
-use Rattle.net_values.specs.Characters.{IsId}
 use Rattle.net_values.specs.declared.document.Document.{Document}
 use Rattle.net_values.specs.declared.document.NetTree.{NetTree}
 use Rattle.net_values.specs.declared.document.Item.{Item}
 use Rattle.pnml_grammar.specs.declared.element.ElementKind.TheVariants as elements
 use Rattle.pnml_grammar.specs.declared.element.Context.TheVariants as contexts
-use Rattle.pnml_grammar.specs.declared.token.Attribute.{Attribute}
 use Rattle.pnml_grammar.specs.declared.token.Token.{Token}
 use Rattle.pnml_grammar.specs.declared.token.Token.TheVariants as tokens
 use Rattle.pnml_grammar.specs.Elements.{element_names, element_kinds, element_named}
-use Rattle.pnml_grammar.specs.Contents.{Content, nothing, ◌then◌, gives}
-use Rattle.pnml_grammar.specs.Counts.{Counts, no_counts, ◌plus◌, counts_of_kind, IsWithin}
+use Rattle.pnml_grammar.specs.Contents.{nothing}
+use Rattle.pnml_grammar.specs.Counts.{Counts, no_counts, ◌plus◌, IsWithin}
 use Rattle.pnml_grammar.specs.Valued.{Valued, IsWithinLimits, name_height}
-use Rattle.pnml_grammar.specs.Machine.{Frame, State, outermost, start, run, behind_declaration, finish, reached, read, receive, close_element}
-use Rattle.pnml_grammar.specs.Runs.{◌>>=◌}
+use Rattle.pnml_grammar.specs.Machine.{State, outermost, start, run, behind_declaration, finish, reached, read}
 use Rattle.pnml_grammar.proofs.CanonTokens.{id_of, type_of, namespace_of, name_tokens, items_tokens, net_tokens, canon_tokens}
 use Rattle.pnml_grammar.proofs.MachineRuns.{Leads, leads_on, leads_token, leads_element}
 use Rattle.pnml_grammar.proofs.CanonTags.{IsFree, inside, net_attributes, pnml_attributes, start_taken, empty_taken, opened_is}
-use Rattle.pnml_grammar.proofs.CanonLabels.{named, names_of, frame, name_leads}
+use Rattle.pnml_grammar.proofs.CanonLabels.{frame, name_leads}
 use Rattle.pnml_grammar.proofs.CanonItems.{first_named}
-use Rattle.pnml_grammar.proofs.CanonPages.{items_counts, root_frame, around, net_frame, state_of, items_lead}
+use Rattle.pnml_grammar.proofs.CanonPages.{items_counts, root_frame, around, state_of, items_lead}
 
 limits_within : (items : List Item) → IsWithinLimits items → IsWithin (no_counts plus items_counts items)
 limits_within items limits = record {

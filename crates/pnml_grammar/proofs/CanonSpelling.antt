@@ -1,9 +1,8 @@
 -- The tokens of a valued document stand in its canonical text: item by item, then the net, and around it the
 -- declaration, the root and the line feed behind it.
-use Rattle.std.proofs.Common.{◌≡◌, ◌≢◌, ℕ, ◌+◌, ◌<◌, ◌≤◌, ◌^◌, Bool, true, false, cond, List, [], ◌∷◌, ◌++◌, length, get_or, length-append, refl, sym, ap, subst, ◌∙◌, arith, append_assoc, append-nil, inl, inr, Option, Some, None}
-use Rattle.std.specs.Prelude.{◌==◌, codes, decimal, nat_eq}
-use Rattle.std.specs.List.{AllByRecursion, flat_map}
-use Rattle.std.proofs.lemmas.Bool.{cases_Bool}
+use Rattle.std.proofs.Common.{◌≡◌, ◌≢◌, ℕ, ◌<◌, ◌^◌, Bool, true, false, cond, List, [], ◌∷◌, ◌++◌, length, get_or, length-append, refl, sym, ap, subst, ◌∙◌, arith, append_assoc, append-nil, inl, inr, Option, Some, None}
+use Rattle.std.specs.Prelude.{◌==◌, codes, decimal}
+use Rattle.std.specs.List.{AllByRecursion}
 use Rattle.net_values.specs.Characters.{IsLegalText, IsIdCharacter, IsLegalCharacter, IsId}
 use Rattle.net_values.specs.declared.document.Document.{Document}
 use Rattle.net_values.specs.declared.document.NetTree.{NetTree}
@@ -19,10 +18,10 @@ use Rattle.pnml_grammar.specs.Tokens.{IsCharacters, TokensOf, first_place}
 use Rattle.pnml_grammar.specs.Values.Resolves.{nothing, byte}
 use Rattle.pnml_grammar.specs.Canon.{escaped, attribute, start_tag, end_tag, element, label, name_text, marking_text, weight_text, id_attribute, item_text, items_text, net_type, namespace, net_text, declaration, canon}
 use Rattle.pnml_grammar.specs.Valued.{Valued, IsNameIfAny, HasValuesInRange}
-use Rattle.pnml_grammar.proofs.EscapeLaws.{printed_text, legal_join}
+use Rattle.pnml_grammar.proofs.EscapeLaws.{printed_text}
 use Rattle.pnml_grammar.proofs.NumeralLaws.{decimal_escaped, decimal_legal, decimal_short}
 use Rattle.pnml_grammar.proofs.CanonTokens.{element_tokens, label_tokens, name_tokens, marking_tokens, weight_tokens, id_of, ref_of, source_of, target_of, type_of, namespace_of, item_tokens, items_tokens, net_tokens, canon_tokens}
-use Rattle.pnml_grammar.proofs.CanonPieces.{Follow, follow_join, follow_whole, Writes, writes_join, writes_nothing, writes_piece, IsPiece, IsWord, word, written_attribute, attributes_text, IsPlainAttribute, ArePlain, start_writes, end_writes}
+use Rattle.pnml_grammar.proofs.CanonPieces.{Follow, follow_join, follow_whole, Writes, writes_join, writes_nothing, writes_piece, IsWord, word, written_attribute, attributes_text, IsPlainAttribute, ArePlain, start_writes, end_writes}
 use Rattle.pnml_grammar.proofs.CanonElements.{element_writes, label_writes}
 
 -- ---- labels

@@ -1,7 +1,7 @@
 -- The tags of the canonical text: no reason applies to one whose name is known, whose attributes are those of
 -- its element, and that stands where it may and where there is room for it.
-use Rattle.std.proofs.Common.{◌≡◌, ℕ, suc, ◌+◌, ◌<◌, ◌≤◌, Bool, true, false, cond, List, [], ◌∷◌, ◌++◌, Option, Some, None, length, get_or, refl, sym, ap, subst, ◌∙◌, arith, inl, inr}
-use Rattle.std.specs.Prelude.{◌==◌, ◌&&◌, not, nat_le, nat_lt, codes, encode_utf8}
+use Rattle.std.proofs.Common.{◌≡◌, ℕ, suc, ◌<◌, ◌≤◌, Bool, true, false, List, [], ◌∷◌, Some, None, length, get_or, refl, sym, ap, subst, ◌∙◌, arith, inl, inr}
+use Rattle.std.specs.Prelude.{◌==◌, ◌&&◌, not, nat_le, nat_lt, encode_utf8}
 use Rattle.std.specs.List.{AllByRecursion, list_all}
 use Rattle.std.specs.Str.{encode_utf8_all}
 use Rattle.std.proofs.lemmas.Bool.{and_from, lt-leb, le-leb, cases_lt}
@@ -16,10 +16,10 @@ use Rattle.pnml_grammar.specs.declared.element.Context.TheVariants as contexts
 use Rattle.pnml_grammar.specs.declared.token.Attribute.{Attribute}
 use Rattle.pnml_grammar.specs.declared.token.Token.{Token}
 use Rattle.pnml_grammar.specs.declared.token.Token.TheVariants as tokens
-use Rattle.pnml_grammar.specs.Elements.{element_names, element_kinds, element_named, attribute_names, attribute_kinds, attribute_named, is_id, fits, has_needed, has_attributes, has_namespace, has_type, may_hold, context_of_kind, context_in}
+use Rattle.pnml_grammar.specs.Elements.{element_named, attribute_names, attribute_kinds, attribute_named, is_id, fits, has_needed, has_attributes, has_namespace, has_type, may_hold, context_of_kind, context_in}
 use Rattle.pnml_grammar.specs.Contents.{Content, nothing, gives}
-use Rattle.pnml_grammar.specs.Counts.{Counts, no_counts, ◌plus◌, counts_of_kind, counts_if_any, tag_counts, IsWithin}
-use Rattle.pnml_grammar.specs.Machine.{Frame, State, first_row, is_second, is_pnml, is_number_text, count_rows, is_full, tag_rows, open_rows_in, reason_of, receive, open_element, close_element}
+use Rattle.pnml_grammar.specs.Counts.{Counts, ◌plus◌, counts_of_kind, counts_if_any, tag_counts, IsWithin}
+use Rattle.pnml_grammar.specs.Machine.{Frame, State, first_row, is_second, is_pnml, is_number_text, count_rows, is_full, tag_rows, open_rows_in, receive, open_element}
 use Rattle.pnml_grammar.proofs.EscapeLaws.{high_bytes}
 use Rattle.pnml_grammar.proofs.CanonTokens.{element_tokens, id_of, ref_of, source_of, target_of, type_of, namespace_of}
 use Rattle.pnml_grammar.proofs.MachineRuns.{Leads, IsTaken, leads_element}

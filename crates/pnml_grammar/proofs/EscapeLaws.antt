@@ -1,34 +1,28 @@
 -- Escaping resolves back: what is written for a value has no tab, line end, `<`, `>` or quote, so nothing but
 -- its references is resolved, and each is the byte that it was written for. Bytes below 128 are looked at one
 -- by one; the others stand as they are, and they make up the characters above U+007F.
-use Rattle.std.proofs.Common.{◌≡◌, ◌≢◌, ℕ, ◌+◌, ◌*◌, zero, suc, ◌<◌, ◌≤◌, Bool, true, false, cond, List, [], ◌∷◌, ◌++◌, map, length, get_or, length-append, refl, sym, ap, subst, ◌∙◌, arith, append_assoc, append-nil, inl, inr}
+use Rattle.std.proofs.Common.{◌≡◌, ℕ, ◌*◌, zero, suc, ◌<◌, ◌≤◌, Bool, true, false, cond, List, [], ◌∷◌, ◌++◌, map, length, get_or, length-append, refl, sym, ap, subst, ◌∙◌, arith, append-nil, inl, inr}
 use Rattle.std.specs.Prelude.{◌==◌, ◌&&◌, ◌||◌, not, nat_le, codes, encode_utf8}
-use Rattle.std.specs.List.{AllByRecursion, list_all, flat_map}
+use Rattle.std.specs.List.{AllByRecursion, list_all}
 use Rattle.std.specs.Str.{encode_utf8_all}
-use Rattle.std.proofs.lemmas.Bool.{and_parts, and_from, cases_lt, cases_eq, cases_Bool, eqb-true, eqb-false, leb-true, le-leb}
+use Rattle.std.proofs.lemmas.Bool.{and_parts, cases_lt, cases_eq, eqb-true, eqb-false, leb-true}
 use Rattle.std.proofs.lemmas.Bool.Decides.{nat_tests}
 use Rattle.std.proofs.lemmas.Grind.{flat_map-append}
-use Rattle.std.proofs.lemmas.Str.{encode_ascii, encodes-append, inside_one}
+use Rattle.std.proofs.lemmas.Str.{encode_ascii, inside_one}
 use Rattle.net_values.specs.Characters.{IsLegalCharacter, IsLegalText}
 use Rattle.pnml_grammar.specs.Characters.{Each, is_between}
 use Rattle.pnml_grammar.specs.Canon.{escape, escaped}
 use Rattle.pnml_grammar.specs.References.{IsNumber}
 use Rattle.pnml_grammar.specs.References.IsReference.{less_than, greater_than, ampersand, quotation, decimal}
 use Rattle.pnml_grammar.specs.Resolving.{is_legal_character}
-use Rattle.pnml_grammar.specs.Values.{lines_ended_behind, lines_ended, spaced, Resolves}
+use Rattle.pnml_grammar.specs.Values.{lines_ended, spaced, Resolves}
 use Rattle.pnml_grammar.specs.Values.Resolves.{nothing, byte, reference}
 use Rattle.pnml_grammar.proofs.RunLaws.{some_is}
 use Rattle.pnml_grammar.proofs.ReferenceLaws.{legal_is}
 use Rattle.pnml_grammar.proofs.ValueLaws.{resolves_is}
+use Rattle.pnml_grammar.proofs.LegalLaws.{legal_join, legal_nothing}
 
 -- ---- texts
-
-all_append : (xs ys : List ℕ) → AllByRecursion IsLegalCharacter xs → AllByRecursion IsLegalCharacter ys → AllByRecursion IsLegalCharacter (xs ++ ys)
-all_append [] ys a b = b
-all_append (x ∷ xs) ys a b = (a.0, all_append xs ys a.1 b)
-
-pub legal_join : (xs ys : List ℕ) → IsLegalText xs → IsLegalText ys → IsLegalText (xs ++ ys)
-legal_join xs ys a b = (a.0 ++ b.0, all_append a.0 b.0 a.1 b.1, encodes-append a.0 b.0 ∙ (λ k. a.2 k ++ b.2 k))
 
 -- ASCII from the space on
 abbrev pub is_printed : List ℕ → Bool
@@ -43,7 +37,7 @@ one_legal : (b : ℕ) → b < 128 → IsLegalCharacter b → IsLegalText (b ∷ 
 one_legal b small legal = (b ∷ [], (legal, tt), append-nil (encode_utf8 b) ∙ encode_ascii b small)
 
 pub printed_text : (bytes : List ℕ) → is_printed bytes ≡ true → IsLegalText bytes
-printed_text [] e = ([], tt, refl)
+printed_text [] e = legal_nothing
 printed_text (b ∷ bs) e =
     let p = and_parts (is_between 32 127 b) (is_printed bs) e in
     let q = and_parts (nat_le 32 b) (nat_le b 127) p.0 in
@@ -240,7 +234,7 @@ escaped_append xs ys = flat_map-append escape xs ys
 
 escaped_characters : (cs : List ℕ) → AllByRecursion IsLegalCharacter cs → IsLegalText (escaped (encode_utf8_all cs))
 unfolding escaped
-escaped_characters [] each = ([], tt, refl)
+escaped_characters [] each = legal_nothing
 escaped_characters (c ∷ cs) each =
     subst IsLegalText (sym (escaped_append (encode_utf8 c) (encode_utf8_all cs)))
     (legal_join (escaped (encode_utf8 c)) (escaped (encode_utf8_all cs)) (escaped_character c each.0) (escaped_characters cs each.1))

@@ -1,11 +1,11 @@
 -- Runs of the reading over whole pieces of tokens: what a piece does is said of the state before and the state
 -- behind it, whatever follows. An empty tag does what its start tag and its end tag do.
-use Rattle.std.proofs.Common.{◌≡◌, ℕ, ◌+◌, ◌<◌, ◌≤◌, Bool, true, false, cond, List, [], ◌∷◌, ◌++◌, Option, Some, None, length, refl, sym, ap, subst, ◌∙◌, arith, append_assoc, append-nil}
+use Rattle.std.proofs.Common.{◌≡◌, ℕ, cond, List, [], ◌∷◌, ◌++◌, Some, None, refl, ap, subst, ◌∙◌, append_assoc}
 use Rattle.std.specs.Prelude.{is_none}
 use Rattle.pnml_grammar.specs.declared.token.Attribute.{Attribute}
 use Rattle.pnml_grammar.specs.declared.token.Token.{Token}
 use Rattle.pnml_grammar.specs.declared.token.Token.TheVariants as tokens
-use Rattle.pnml_grammar.specs.Machine.{State, rows, first_row, reason_of, next, step, run, open_element, close_element}
+use Rattle.pnml_grammar.specs.Machine.{State, reason_of, next, step, run, open_element, close_element}
 use Rattle.pnml_grammar.specs.Runs.{◌>>=◌}
 use Rattle.pnml_grammar.proofs.RunLaws.{some_is}
 use Rattle.pnml_grammar.proofs.CanonTokens.{element_tokens}

@@ -1,7 +1,7 @@
 -- Decimal texts: all of their bytes are digits, so they are written as they are, and they read back as the
 -- number.
-use Rattle.std.proofs.Common.{◌≡◌, ℕ, ◌+◌, ◌<◌, ◌≤◌, ◌^◌, ◌/◌, ◌%◌, Bool, true, false, List, [], ◌∷◌, ◌++◌, length, refl, sym, ap, subst, ◌∙◌, arith, append-nil, Option, Some, None}
-use Rattle.std.specs.Prelude.{◌==◌, ◌&&◌, not, nat_le, nat_lt, decimal, if◌then◌else◌}
+use Rattle.std.proofs.Common.{◌≡◌, ℕ, ◌+◌, ◌<◌, ◌≤◌, ◌^◌, ◌%◌, true, false, List, [], ◌∷◌, length, refl, sym, ap, ◌∙◌, arith, append-nil, Some}
+use Rattle.std.specs.Prelude.{◌==◌, ◌&&◌, not, nat_le, decimal}
 use Rattle.std.specs.List.{list_all}
 use Rattle.std.specs.Str.Parse.{digits_value}
 use Rattle.std.proofs.Math.Nat.{mod-lt}
@@ -12,10 +12,10 @@ use Rattle.std.proofs.lemmas.List.Folds.{list_all-append}
 use Rattle.net_values.specs.Characters.{IsLegalText}
 use Rattle.pnml_grammar.specs.declared.element.Context.TheVariants as contexts
 use Rattle.pnml_grammar.specs.Characters.{Each, is_space, is_between}
-use Rattle.pnml_grammar.specs.Numerals.{is_digit, is_white, numeral, number_in}
+use Rattle.pnml_grammar.specs.Numerals.{is_digit, numeral, number_in}
 use Rattle.pnml_grammar.specs.Canon.{escape, escaped}
 use Rattle.pnml_grammar.specs.Runs.{passed, behind}
-use Rattle.pnml_grammar.proofs.RunLaws.{Stops, passed_is, behind_is}
+use Rattle.pnml_grammar.proofs.RunLaws.{passed_is, behind_is}
 use Rattle.pnml_grammar.proofs.EscapeLaws.{is_printed, printed_text, is_clean, escape_plain}
 
 one_digit : (d : ℕ) → d < 10 → list_all is_digit ((48 + d) ∷ []) ≡ true
