@@ -26,7 +26,9 @@ pub mod RowLaws
 pub mod ReadingTrees
 pub mod LastNodes
 pub mod Spots
+pub mod Endings
 pub mod DocumentLaws
+pub mod Missing
 pub mod EscapeLaws
 pub mod CanonTokens
 pub mod CanonPieces

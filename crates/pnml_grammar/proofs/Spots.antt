@@ -245,7 +245,7 @@ none_if : (reason : Option Reason) → is_none reason ≡ true → reason ≡ No
 none_if None e = refl
 none_if (Some reason) e = absurd (true≢false (sym e))
 
-step_found : (state : State) (token : Token) (list : List Token) (end : State) → run state (token ∷ list) ≡ Some end
+pub step_found : (state : State) (token : Token) (list : List Token) (end : State) → run state (token ∷ list) ≡ Some end
     → (reason_of state token ≡ None) × (run (next state token) list ≡ Some end)
 step_found state token list end e =
     let found = bind_some (step state token) (λ after. run after list) end e in
