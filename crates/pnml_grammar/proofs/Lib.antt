@@ -41,3 +41,4 @@ pub mod CanonLabels
 pub mod CanonItems
 pub mod CanonPages
 pub mod CanonReading
+pub mod CanonLaws
