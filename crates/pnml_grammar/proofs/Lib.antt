@@ -11,6 +11,7 @@ pub mod ShapeLaws
 pub mod TagLaws
 pub mod MarkupLaws
 pub mod TokenLaws
+pub mod PlaceLaws
 pub mod EachLaws
 pub mod LegalLaws
 pub mod ValuedTrees

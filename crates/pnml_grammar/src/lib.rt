@@ -1,6 +1,6 @@
 //! The grammar of the documents that are read: the tokens of PNML's text, XML 1.0 in a narrow profile, what
 //! it means that one stands at an offset, what it means that tokens spell a document, and the one text that
-//! is written for it. At most one token stands at an offset.
+//! is written for it. At most one token stands at an offset, and bytes spell at most one document.
 #![tactic(auto)]
 
 mod element;
@@ -9,6 +9,6 @@ mod reason;
 mod token;
 
 pub use element::{AttributeKind, Context, ElementKind};
-pub use law::one_token;
+pub use law::{one_document, one_token};
 pub use reason::{Counted, Reason};
 pub use token::{Attribute, Attributes, Token};
