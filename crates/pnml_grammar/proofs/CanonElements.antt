@@ -1,6 +1,6 @@
 -- Elements and labels of the canonical text: the tokens stand in their text. An element has a child in the
 -- text just where it has one among the tokens, since no spelling is empty.
-use Rattle.std.proofs.Common.{◌≡◌, ℕ, ◌≤◌, true, List, [], ◌∷◌, ◌++◌, length, length-append, refl, sym, ap, subst, arith, append_assoc}
+use Rattle.std.proofs.Common.{◌≡◌, ℕ, ◌+◌, ◌≤◌, true, List, [], ◌∷◌, ◌++◌, length, length-append, refl, sym, ap, subst, arith, append_assoc}
 use Rattle.std.specs.Prelude.{codes}
 use Rattle.std.proofs.lemmas.Bool.Decides.{nat_tests}
 use Rattle.net_values.specs.Characters.{IsLegalText}
@@ -9,28 +9,20 @@ use Rattle.pnml_grammar.specs.declared.token.Token.{Token}
 use Rattle.pnml_grammar.specs.declared.token.Token.TheVariants as tokens
 use Rattle.pnml_grammar.specs.Characters.{Each, Without}
 use Rattle.pnml_grammar.specs.Values.{Resolves}
-use Rattle.pnml_grammar.specs.Tokens.{IsSpelling, is_text_byte}
+use Rattle.pnml_grammar.specs.Tokens.{is_text_byte, TokenAt}
 use Rattle.pnml_grammar.specs.Canon.{escaped, start_tag, end_tag, element, label}
+use Rattle.pnml_grammar.proofs.PlaceLaws.{token_goes_on}
 use Rattle.pnml_grammar.proofs.EscapeLaws.{is_clean, escaped_clean, escaped_short, escaped_resolves, escaped_lines, escaped_legal, escaped_some}
 use Rattle.pnml_grammar.proofs.CanonTokens.{element_tokens, value_tokens, label_tokens}
 use Rattle.pnml_grammar.proofs.CanonPieces.{Follow, Writes, writes_join, IsPiece, piece_stands, IsWord, word, ArePlain, attributes_text, start_writes, empty_writes, end_writes}
 
--- ---- no spelling is empty
-
-spelling_some : (token : Token) (text : List ℕ) → IsSpelling token text → 1 ≤ length text
-spelling_some tokens.Declaration text is = omega (arith, ap length is.spelling)
-spelling_some tokens.Comment text is = omega (arith, ap length is.spelling)
-spelling_some tokens.Instruction text is = omega (arith, ap length is.spelling)
-spelling_some (tokens.Cdata value) text is = omega (arith, ap length is.spelling)
-spelling_some (tokens.Start name attributes) text is = omega (arith, ap length is.spelling)
-spelling_some (tokens.Empty name attributes) text is = omega (arith, ap length is.spelling)
-spelling_some (tokens.End name) text is = omega (arith, ap length is.spelling)
-spelling_some (tokens.Characters value) text is = is.some
+-- ---- a token has bytes
 
 nothing_follows : (token : Token) (list : List Token) → Writes [] (token ∷ list) → ⊥
 nothing_follows token list writes =
     let w = writes [] in
-    omega (arith, spelling_some token w.0 w.2.spells, ap length w.2.parts, length-append w.0 w.1)
+    let here : TokenAt [] 0 token (0 + length w.0) = record { inside = omega arith; spelling = w.0; rest = w.1; stands = w.2; end_is = refl } in
+    omega (arith, token_goes_on [] 0 token (0 + length w.0) here, ap length w.2.parts, length-append w.0 w.1)
 
 -- ---- elements
 

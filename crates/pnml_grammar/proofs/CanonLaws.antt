@@ -1,6 +1,6 @@
 -- The canonical text spells its document: its tokens stand in it, each with legal texts, and they are read as
 -- the document.
-use Rattle.std.proofs.Common.{ℕ, List, [], ◌∷◌, length}
+use Rattle.std.proofs.Common.{ℕ, sym, ap, subst, List, [], ◌∷◌, length}
 use Rattle.std.specs.List.{AllByRecursion}
 use Rattle.net_values.specs.declared.document.Document.{Document}
 use Rattle.pnml_grammar.specs.declared.token.Token.{Token}
@@ -9,8 +9,9 @@ use Rattle.pnml_grammar.specs.LegalTexts.{HasLegalTexts}
 use Rattle.pnml_grammar.specs.Valued.{Valued}
 use Rattle.pnml_grammar.specs.Documents.{DocBytes}
 use Rattle.pnml_grammar.specs.Canon.{canon}
+use Rattle.pnml_grammar.specs.CanonicalTexts.{TellDocumentsApart}
 use Rattle.pnml_grammar.proofs.LegalLaws.{token_is_legal}
-use Rattle.pnml_grammar.proofs.DocumentLaws.{read_spells}
+use Rattle.pnml_grammar.proofs.DocumentLaws.{read_spells, spells_one}
 use Rattle.pnml_grammar.proofs.CanonTokens.{canon_tokens}
 use Rattle.pnml_grammar.proofs.CanonSpelling.{canon_spelled}
 use Rattle.pnml_grammar.proofs.CanonReading.{canon_read}
@@ -29,3 +30,8 @@ canon_is document valued =
       tokens_are = spelled;
       spells = read_spells document (canon_tokens document) legal (canon_read document valued);
     }
+
+-- the text tells the document, since it spells no other
+pub canon_tells : TellDocumentsApart
+canon_tells document other valued also =
+    (λ same. spells_one (canon document) document other (canon_is document valued) (subst (DocBytes other) (sym same) (canon_is other also)), λ same. ap canon same)
