@@ -14,15 +14,16 @@ use Rattle.pnml_grammar.specs.declared.element.ElementKind.{ElementKind}
 use Rattle.pnml_grammar.specs.declared.element.ElementKind.TheVariants as elements
 use Rattle.pnml_grammar.specs.declared.element.Context.{Context}
 use Rattle.pnml_grammar.specs.declared.element.Context.TheVariants as contexts
+use Rattle.pnml_grammar.specs.declared.token.Attribute.{Attribute}
 use Rattle.pnml_grammar.specs.declared.token.Token.TheVariants as tokens
-use Rattle.pnml_grammar.specs.Elements.{element_names, element_kinds, element_named, is_name, is_node_or_page, is_skipped, may_hold}
-use Rattle.pnml_grammar.specs.Contents.{Content, nothing, one_item, first_value}
+use Rattle.pnml_grammar.specs.Elements.{element_names, element_kinds, element_named, is_name, is_node_or_page, is_skipped, may_hold, context_of_kind}
+use Rattle.pnml_grammar.specs.Contents.{gives, Content, nothing, one_item, first_value}
 use Rattle.pnml_grammar.specs.Counts.{Counts, ◌plus◌, counts_of_kind, IsWithin}
-use Rattle.pnml_grammar.specs.Valued.{HasValuesInRange, name_height, item_height}
-use Rattle.pnml_grammar.specs.Machine.{Frame, State, is_second, is_number_text, receive}
+use Rattle.pnml_grammar.specs.Valued.{IsNameIfAny, HasValuesInRange, name_height, item_height}
+use Rattle.pnml_grammar.specs.Machine.{Frame, State, is_second, is_number_text, is_pnml, receive}
 use Rattle.pnml_grammar.proofs.CanonTokens.{element_tokens, id_of, ref_of, source_of, target_of, name_tokens, marking_tokens, weight_tokens, item_tokens}
-use Rattle.pnml_grammar.proofs.MachineRuns.{Leads, leads_on, leads_token}
-use Rattle.pnml_grammar.proofs.CanonTags.{is_read, IsFree, counted_room, inside, start_taken, opened_is, leads_child, page_attributes, place_attributes, transition_attributes, ref_place_attributes, ref_transition_attributes, arc_attributes}
+use Rattle.pnml_grammar.proofs.MachineRuns.{IsTaken, Leads, leads_on, leads_token}
+use Rattle.pnml_grammar.proofs.CanonTags.{is_read, IsFree, HasAttributes, counted_room, inside, start_taken, opened_is, leads_child, page_attributes, place_attributes, transition_attributes, ref_place_attributes, ref_transition_attributes, arc_attributes}
 use Rattle.pnml_grammar.proofs.CanonLabels.{named, names_of, frame, numbered, name_leads, marking_leads, weight_leads}
 
 -- the kind of an item's element
@@ -147,38 +148,35 @@ module _ (top : Frame) (under : List Frame) (counts : Counts) (holds : IsHolder 
   abbrev Reads : Item → Type 0
   Reads item = HasValuesInRange item → length under + item_height item ≤ 128 → IsWithin (counts plus counts_of_kind (kind_of item)) → Leads now (item_tokens item) (with_item item)
 
+  -- an element that has a name and no other children
+  named_leads : (own : List ℕ) (attributes : List Attribute) (element : ElementKind) (name : Option (List ℕ)) → is_node_or_page element ≡ true → element_named own ≡ Some element → HasAttributes element attributes
+      → is_read (context_of_kind top.context element) ≡ true → may_hold (context_of_kind top.context element) elements.Name ≡ true → is_pnml element ≡ false
+      → IsNameIfAny name → length under + (1 + name_height name) ≤ 128 → IsWithin (counts plus counts_of_kind element)
+      → IsTaken (inside top under counts own attributes element (named name)) (tokens.End own)
+      → Leads now (element_tokens own attributes (name_tokens name))
+      (record { top = receive (gives (context_of_kind top.context element) attributes (named name)) top; under = under; counts = counts plus counts_of_kind element })
+  named_leads own attributes element name item is has reads held root valued room within ends =
+      leads_child top under counts own attributes element (item_free own element item is (omega arith) within) has (name_tokens name) (named name) (λ e. holder_no_text top.context element holds) root
+      (name_leads (context_of_kind top.context element) own attributes (top ∷ under) (counts plus counts_of_kind element) name reads held valued (omega arith))
+      ends
+
   transition_reads : (transition : TransitionNode) → Reads (Transition transition)
   unfolding element_named element_names element_kinds
   transition_reads transition is room within =
-      let own = codes "transition" in
-      let attributes = id_of transition.id ∷ [] in
       subst (λ name. Leads now (item_tokens (Transition transition)) (with_item (Transition record { id = transition.id; name = name }))) (first_named transition.name)
-      (leads_child top under counts own attributes elements.Transition (item_free own elements.Transition refl refl (omega arith) within) (transition_attributes transition.id is.0)
-      (name_tokens transition.name) (named transition.name) (λ e. holder_no_text top.context elements.Transition holds) refl
-      (name_leads contexts.Transition own attributes (top ∷ under) _ transition.name refl refl is.1 (omega arith))
-      refl)
+      (named_leads (codes "transition") (id_of transition.id ∷ []) elements.Transition transition.name refl refl (transition_attributes transition.id is.0) refl refl refl is.1 room within refl)
 
   ref_place_reads : (node : RefNode) → Reads (RefPlace node)
   unfolding element_named element_names element_kinds
   ref_place_reads node is room within =
-      let own = codes "referencePlace" in
-      let attributes = id_of node.id ∷ ref_of node.target ∷ [] in
       subst (λ name. Leads now (item_tokens (RefPlace node)) (with_item (RefPlace record { id = node.id; name = name; target = node.target }))) (first_named node.name)
-      (leads_child top under counts own attributes elements.ReferencePlace (item_free own elements.ReferencePlace refl refl (omega arith) within) (ref_place_attributes node.id is.0 node.target is.2)
-      (name_tokens node.name) (named node.name) (λ e. holder_no_text top.context elements.ReferencePlace holds) refl
-      (name_leads contexts.ReferencePlace own attributes (top ∷ under) _ node.name refl refl is.1 (omega arith))
-      refl)
+      (named_leads (codes "referencePlace") (id_of node.id ∷ ref_of node.target ∷ []) elements.ReferencePlace node.name refl refl (ref_place_attributes node.id is.0 node.target is.2) refl refl refl is.1 room within refl)
 
   ref_transition_reads : (node : RefNode) → Reads (RefTransition node)
   unfolding element_named element_names element_kinds
   ref_transition_reads node is room within =
-      let own = codes "referenceTransition" in
-      let attributes = id_of node.id ∷ ref_of node.target ∷ [] in
       subst (λ name. Leads now (item_tokens (RefTransition node)) (with_item (RefTransition record { id = node.id; name = name; target = node.target }))) (first_named node.name)
-      (leads_child top under counts own attributes elements.ReferenceTransition (item_free own elements.ReferenceTransition refl refl (omega arith) within) (ref_transition_attributes node.id is.0 node.target is.2)
-      (name_tokens node.name) (named node.name) (λ e. holder_no_text top.context elements.ReferenceTransition holds) refl
-      (name_leads contexts.ReferenceTransition own attributes (top ∷ under) _ node.name refl refl is.1 (omega arith))
-      refl)
+      (named_leads (codes "referenceTransition") (id_of node.id ∷ ref_of node.target ∷ []) elements.ReferenceTransition node.name refl refl (ref_transition_attributes node.id is.0 node.target is.2) refl refl refl is.1 room within refl)
 
   place_reads : (place : PlaceNode) → Reads (Place place)
   unfolding element_named element_names element_kinds
@@ -217,10 +215,13 @@ module _ (top : Frame) (under : List Frame) (counts : Counts) (holds : IsHolder 
 
   -- ---- pages
 
+  page_is : element_named (codes "page") ≡ Some elements.Page
+  unfolding element_named element_names element_kinds
+  page_is = refl
+
   page_free : (page : PageNode) → HasValuesInRange (Page page) → length under + item_height (Page page) ≤ 128 → IsWithin (counts plus counts_of_kind elements.Page)
       → IsFree top under counts (codes "page") elements.Page
-  unfolding element_named element_names element_kinds
-  page_free page is room within = item_free (codes "page") elements.Page refl refl (omega arith) within
+  page_free page is room within = item_free (codes "page") elements.Page refl page_is (omega arith) within
 
   -- a page, open, with its name
   abbrev pub page_frame : PageNode → List Item → Frame
@@ -251,9 +252,7 @@ module _ (top : Frame) (under : List Frame) (counts : Counts) (holds : IsHolder 
       let attributes = id_of page.id ∷ [] in
       subst (λ name. Leads now (element_tokens (codes "page") attributes (name_tokens page.name))
       (record { top = receive (record nothing { items = Page record { id = page.id; name = name } ∷ PageEnd ∷ [] }) top; under = under; counts = counts plus counts_of_kind elements.Page })) (first_named page.name)
-      (leads_child top under counts (codes "page") attributes elements.Page (page_free page is room within) (page_attributes page.id is.0)
-      (name_tokens page.name) (named page.name) (λ e. holder_no_text top.context elements.Page holds) refl
-      (page_named page is room) refl)
+      (named_leads (codes "page") attributes elements.Page page.name refl page_is (page_attributes page.id is.0) refl refl refl is.1 room within refl)
 
   pub node_reads : (item : Item) → IsNode item → Reads item
   node_reads (Page page) node = absurd node
