@@ -32,3 +32,16 @@ pub mod DocumentLaws
 pub mod Missing
 pub mod ValuedWalks
 pub mod ValuedTestLaws
+pub mod EscapeLaws
+pub mod CanonTokens
+pub mod CanonPieces
+pub mod CanonElements
+pub mod NumeralLaws
+pub mod CanonSpelling
+pub mod MachineRuns
+pub mod CanonTags
+pub mod CanonLabels
+pub mod CanonItems
+pub mod CanonPages
+pub mod CanonReading
+pub mod CanonLaws
