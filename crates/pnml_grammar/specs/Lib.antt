@@ -21,4 +21,5 @@ pub mod Counts
 pub mod Documents
 pub mod Machine
 pub mod FirstFault
+pub mod ReadTo
 pub mod LegalTexts

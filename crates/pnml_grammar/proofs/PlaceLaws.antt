@@ -1,0 +1,84 @@
+-- Tokens one after the other: each has bytes, so their offsets ascend; and of two lists of tokens from one
+-- offset one is a front of the other, since at an offset at most one token stands.
+use Rattle.std.proofs.Common.{◌≡◌, ℕ, ◌+◌, ◌<◌, ◌≤◌, List, [], ◌∷◌, ◌++◌, Option, Some, None, refl, sym, ap, subst, ◌∙◌, arith, inl, inr, length, drop, length-append, length-drop}
+use Rattle.std.specs.Prelude.{◌⊎◌}
+use Rattle.std.specs.List.{AllByRecursion}
+use Rattle.pnml_grammar.specs.declared.token.Token.{Token}
+use Rattle.pnml_grammar.specs.declared.token.Token.TheVariants.{Characters}
+use Rattle.pnml_grammar.specs.Tokens.{MayFollow, Stands, TokenAt, TokensTo}
+use Rattle.pnml_grammar.specs.Reading.{shape_at, token_from}
+use Rattle.pnml_grammar.specs.LegalTexts.{HasLegalTexts}
+use Rattle.pnml_grammar.proofs.LegalLaws.{token_is_legal}
+use Rattle.pnml_grammar.proofs.TokenLaws.{token_is, one_token_stands}
+
+-- ---- a token
+
+pub token_end_inside : (bytes : List ℕ) (k : ℕ) (token : Token) (e : ℕ) → TokenAt bytes k token e → e ≤ length bytes
+token_end_inside bytes k token e at =
+    omega (arith, at.end_is, at.inside, ap length at.stands.parts, length-append at.spelling at.rest, length-drop k bytes)
+
+may_end : (token : Token) → MayFollow token []
+may_end (Characters value) = tt
+may_end _ = tt
+
+-- a token that no bytes spell would stand where none do
+no_bytes_spell : (token : Token) (bytes rest : List ℕ) → Stands bytes token [] rest → ⊥
+unfolding token_from shape_at
+no_bytes_spell token bytes rest stands =
+    let here : Stands [] token [] [] = record { parts = refl; spells = stands.spells; legal = stands.legal; short = stands.short; follows = may_end token } in
+    let none = token_is [] token [] [] here in
+    absurd cc
+
+has_bytes : (token : Token) (bytes spelling rest : List ℕ) → Stands bytes token spelling rest → 0 < length spelling
+has_bytes token bytes [] rest stands = absurd (no_bytes_spell token bytes rest stands)
+has_bytes token bytes (b ∷ bs) rest stands = omega arith
+
+pub token_goes_on : (bytes : List ℕ) (k : ℕ) (token : Token) (e : ℕ) → TokenAt bytes k token e → k < e
+token_goes_on bytes k token e at = omega (arith, at.end_is, has_bytes token (drop k bytes) at.spelling at.rest at.stands)
+
+-- ---- lists of tokens
+
+pub tokens_ascend : (bytes : List ℕ) (list : List Token) (k e : ℕ) → TokensTo bytes k list e → k ≤ e
+tokens_ascend bytes [] k e to = omega (arith, to)
+tokens_ascend bytes (token ∷ list) k e to =
+    omega (arith, token_goes_on bytes k token to.0 to.1, tokens_ascend bytes list to.0 e to.2)
+
+pub tokens_then : (bytes : List ℕ) (list : List Token) (k e : ℕ) (token : Token) (f : ℕ) → TokensTo bytes k list e → TokenAt bytes e token f
+    → TokensTo bytes k (list ++ token ∷ []) f
+tokens_then bytes [] k e token f to at = (f, subst (λ (p : ℕ). TokenAt bytes p token f) (sym to) at, refl)
+tokens_then bytes (first ∷ list) k e token f to at = (to.0, to.1, tokens_then bytes list to.0 e token f to.2 at)
+
+pub tokens_are_legal : (bytes : List ℕ) (list : List Token) (k e : ℕ) → TokensTo bytes k list e → AllByRecursion HasLegalTexts list
+tokens_are_legal bytes [] k e to = tt
+tokens_are_legal bytes (token ∷ list) k e to = (token_is_legal bytes k token to.0 to.1, tokens_are_legal bytes list to.0 e to.2)
+
+-- the first list goes on to the second
+pub record GoesOn (bytes : List ℕ) (list other : List Token) (e f : ℕ) : Type 0 where
+  pub more : List Token
+  pub parts : other ≡ list ++ more
+  pub reaches : TokensTo bytes e more f
+
+-- the first list has a token more than the second, and further ones
+pub record IsLonger (bytes : List ℕ) (list other : List Token) (f : ℕ) : Type 0 where
+  pub token : Token
+  pub end : ℕ
+  pub stands : TokenAt bytes f token end
+  pub more : List Token
+  pub parts : list ≡ other ++ token ∷ more
+
+further : (bytes : List ℕ) (token : Token) (list other : List Token) (e f : ℕ) → GoesOn bytes list other e f ⊎ IsLonger bytes list other f
+    → GoesOn bytes (token ∷ list) (token ∷ other) e f ⊎ IsLonger bytes (token ∷ list) (token ∷ other) f
+further bytes token list other e f (inl on) = inl record { more = on.more; parts = ap (λ (t : List Token). token ∷ t) on.parts; reaches = on.reaches }
+further bytes token list other e f (inr longer) =
+    inr record { token = longer.token; end = longer.end; stands = longer.stands; more = longer.more; parts = ap (λ (t : List Token). token ∷ t) longer.parts }
+
+pub one_goes_on : (bytes : List ℕ) (list other : List Token) (k e f : ℕ) → TokensTo bytes k list e → TokensTo bytes k other f
+    → GoesOn bytes list other e f ⊎ IsLonger bytes list other f
+one_goes_on bytes [] other k e f to also = inl record { more = other; parts = refl; reaches = subst (λ (p : ℕ). TokensTo bytes p other f) to also }
+one_goes_on bytes (token ∷ list) [] k e f to also =
+    inr record { token = token; end = to.0; stands = subst (λ (p : ℕ). TokenAt bytes p token to.0) also to.1; more = list; parts = refl }
+one_goes_on bytes (token ∷ list) (first ∷ other) k e f to also =
+    let same = one_token_stands bytes k token first to.0 also.0 to.1 also.1 in
+    let rest = subst (λ (p : ℕ). TokensTo bytes p other f) (sym same.1) also.2 in
+    subst (λ (t : Token). GoesOn bytes (token ∷ list) (t ∷ other) e f ⊎ IsLonger bytes (token ∷ list) (t ∷ other) f) same.0
+    (further bytes token list other e f (one_goes_on bytes list other to.0 e f to.2 rest))
