@@ -15,12 +15,17 @@ use Rattle.pnml_grammar.specs.Documents.{DocBytes}
 use Rattle.pnml_grammar.specs.Machine.{State, reason_of, finish, reached, read}
 use Rattle.pnml_grammar.specs.FirstFault.{IsBehind, state_of, Begins, IsFaulty, HasNoToken, HasBadToken, IsFirstFaulty, FirstFault, not_utf8, truncated}
 use Rattle.pnml_grammar.specs.ReadTo.{IsReadTo}
-use Rattle.pnml_grammar.proofs.PlaceLaws.{token_end_inside, token_goes_on, tokens_ascend, tokens_are_legal, GoesOn, IsLonger, one_goes_on}
+use Rattle.pnml_grammar.proofs.LegalLaws.{token_is_legal}
+use Rattle.pnml_grammar.proofs.PlaceLaws.{token_end_inside, token_goes_on, tokens_ascend, GoesOn, IsLonger, one_goes_on}
 use Rattle.pnml_grammar.proofs.TokenLaws.{one_token_stands}
 use Rattle.pnml_grammar.proofs.ReadToLaws.{reached_front, token_is_refused}
 use Rattle.pnml_grammar.proofs.DocumentLaws.{spells_read, reached_spot, read_spells, begins_reached, reached_begins}
 
 -- ---- what was read begins a document
+
+tokens_are_legal : (bytes : List ℕ) (list : List Token) (k e : ℕ) → TokensTo bytes k list e → AllByRecursion HasLegalTexts list
+tokens_are_legal bytes [] k e to = tt
+tokens_are_legal bytes (token ∷ list) k e to = (token_is_legal bytes k token to.0 to.1, tokens_are_legal bytes list to.0 e to.2)
 
 legal_front : (list more : List Token) → AllByRecursion HasLegalTexts (list ++ more) → AllByRecursion HasLegalTexts list
 legal_front [] more legal = tt

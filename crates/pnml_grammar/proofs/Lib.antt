@@ -11,8 +11,8 @@ pub mod ShapeLaws
 pub mod TagLaws
 pub mod MarkupLaws
 pub mod TokenLaws
-pub mod DocumentLaws
-pub mod LegalLaws
 pub mod PlaceLaws
 pub mod ReadToLaws
+pub mod LegalLaws
+pub mod DocumentLaws
 pub mod FaultLaws

@@ -2,13 +2,10 @@
 -- offset one is a front of the other, since at an offset at most one token stands.
 use Rattle.std.proofs.Common.{◌≡◌, ℕ, ◌+◌, ◌<◌, ◌≤◌, List, [], ◌∷◌, ◌++◌, Option, Some, None, refl, sym, ap, subst, ◌∙◌, arith, inl, inr, length, drop, length-append, length-drop}
 use Rattle.std.specs.Prelude.{◌⊎◌}
-use Rattle.std.specs.List.{AllByRecursion}
 use Rattle.pnml_grammar.specs.declared.token.Token.{Token}
 use Rattle.pnml_grammar.specs.declared.token.Token.TheVariants.{Characters}
 use Rattle.pnml_grammar.specs.Tokens.{MayFollow, Stands, TokenAt, TokensTo}
 use Rattle.pnml_grammar.specs.Reading.{shape_at, token_from}
-use Rattle.pnml_grammar.specs.LegalTexts.{HasLegalTexts}
-use Rattle.pnml_grammar.proofs.LegalLaws.{token_is_legal}
 use Rattle.pnml_grammar.proofs.TokenLaws.{token_is, one_token_stands}
 
 -- ---- a token
@@ -47,10 +44,6 @@ pub tokens_then : (bytes : List ℕ) (list : List Token) (k e : ℕ) (token : To
     → TokensTo bytes k (list ++ token ∷ []) f
 tokens_then bytes [] k e token f to at = (f, subst (λ (p : ℕ). TokenAt bytes p token f) (sym to) at, refl)
 tokens_then bytes (first ∷ list) k e token f to at = (to.0, to.1, tokens_then bytes list to.0 e token f to.2 at)
-
-pub tokens_are_legal : (bytes : List ℕ) (list : List Token) (k e : ℕ) → TokensTo bytes k list e → AllByRecursion HasLegalTexts list
-tokens_are_legal bytes [] k e to = tt
-tokens_are_legal bytes (token ∷ list) k e to = (token_is_legal bytes k token to.0 to.1, tokens_are_legal bytes list to.0 e to.2)
 
 -- the first list goes on to the second
 pub record GoesOn (bytes : List ℕ) (list other : List Token) (e f : ℕ) : Type 0 where
