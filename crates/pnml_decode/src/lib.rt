@@ -1,17 +1,14 @@
-//! Reads a plain document: `decode` gives the one document whose canonical text the bytes are, and says
-//! `NotPlain` exactly where there is none.
+//! Reads a document: `decode` gives the one document that the bytes spell, or the first place where they
+//! stop to begin one, with the reason.
 #![tactic(auto)]
 
+mod attributes;
+mod content;
 mod counts;
-mod document;
-mod fault;
-mod ids;
-mod item;
-mod items;
-mod literal;
+mod elements;
+mod nodes;
 mod number;
-mod opening;
-mod page;
-
-pub use document::{canonical_text_tells_documents_apart, decode, one_document};
-pub use fault::DocFault;
+mod open;
+mod reader;
+mod reasons;
+mod stop;
