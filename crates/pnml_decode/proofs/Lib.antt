@@ -1,1 +1,4 @@
+-- Lemmas for the reader's code.
+pub mod Lists
+pub mod Giving
 pub mod LoopLaws

@@ -2,11 +2,22 @@
 //! first fault, with its offset and its reason.
 #![tactic(auto)]
 
+mod attributes;
+mod content;
+mod counts;
 mod document;
+mod elements;
 mod fault;
+mod nodes;
+mod number;
+mod open;
 mod reader;
+mod reasons;
 mod stop;
 
 pub use document::decode;
 pub use fault::DocFault;
 pub use pnml_grammar::{Counted, Reason};
+
+#[cfg(test)]
+mod tests;

@@ -5,10 +5,12 @@
 
 mod element;
 mod law;
+mod names;
 mod reason;
 mod token;
 
 pub use element::{AttributeKind, Context, ElementKind};
 pub use law::one_token;
+pub use names::{ATTRIBUTES, ELEMENTS, Names, find_in};
 pub use reason::{Counted, Reason};
 pub use token::{Attribute, Attributes, Token};

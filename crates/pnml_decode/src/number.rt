@@ -1,0 +1,79 @@
+ghost use Rattle.std.specs.Prelude.{◌≡◌};
+ghost use Rattle.std.specs.Str.Parse.{digits_value};
+ghost use Rattle.pnml_grammar.specs.Characters.{is_space};
+ghost use Rattle.pnml_grammar.specs.Runs.{passed, behind};
+ghost use Rattle.pnml_grammar.specs.Numerals.{is_digit, is_white, numeral, number_in};
+ghost use Rattle.pnml_decode.specs.Numbers.{AreDigits, narrow, narrow_if_any};
+
+use pnml_grammar::Context;
+
+/// White space alone.
+pub(crate) fn is_white(bytes: &[u8]) -> bool
+    ensures { result ≡ is_white bytes.now }
+{
+    bytes.iter().all(|byte| is_space(*byte))
+}
+
+/// The number of an initial marking, or of an inscription, which is at least 1.
+#[tactic(auto, unfolding(pnml_grammar::specs::Numerals::number_in))]
+pub(crate) fn number_in(context: Context, bytes: &[u8]) -> Option<u64>
+    ensures { result ≡ number_in context bytes.now }
+{
+    let number = numeral(bytes)?;
+    match context {
+        Context::MarkingText => Some(number),
+        Context::WeightText if number >= 1 => Some(number),
+        _ => None,
+    }
+}
+
+/// Decimal digits between white space, as a number below 2^64.
+#[tactic(auto, unfolding(pnml_grammar::specs::Numerals::numeral))]
+fn numeral(bytes: &[u8]) -> Option<u64>
+    ensures { result ≡ narrow_if_any (numeral bytes.now) }
+{
+    let (digits, rest) = split_digits(past_space(bytes));
+    if digits.is_empty() || !is_white(rest) {
+        None
+    } else {
+        number(digits)
+    }
+}
+
+/// The number that the digits write, where it is below 2^64.
+fn number(digits: &[u8]) -> Option<u64>
+    requires { AreDigits digits.now }
+    ensures { result ≡ narrow (digits_value 10 digits.now) }
+{
+    match std::str::from_utf8(digits) {
+        Ok(text) => text.parse::<u64>().ok(),
+        Err(_) => unreachable!(),
+    }
+}
+
+/// The digits at the front, and what stands behind them.
+fn split_digits(bytes: &[u8]) -> (&[u8], &[u8])
+    ensures digits { result.0.now ≡ passed is_digit bytes.now }
+    ensures rest { result.1.now ≡ behind is_digit bytes.now }
+{
+    let count = bytes
+        .iter()
+        .take_while(|byte| byte.is_ascii_digit())
+        .count();
+    bytes.split_at(count)
+}
+
+/// What stands behind the white space at the front.
+fn past_space(bytes: &[u8]) -> &[u8]
+    ensures { result.now ≡ behind is_space bytes.now }
+{
+    let count = bytes.iter().take_while(|byte| is_space(**byte)).count();
+    &bytes[count..]
+}
+
+/// White space (XML 1.0, production 3, S).
+fn is_space(byte: u8) -> bool
+    ensures { result ≡ is_space byte }
+{
+    byte == b'\t' || byte == b'\n' || byte == b'\r' || byte == b' '
+}
