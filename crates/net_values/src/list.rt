@@ -64,6 +64,28 @@ impl<T: Drop> List<T> {
         Ok(())
     }
 
+    /// Appends the members of another list. A refusal leaves the list unchanged and drops them.
+    pub fn append(&mut self, more: List<T>) -> Result<(), NoMemory>
+        ensures ok { OnOk result (self.new ≡ self.old ++ more) }
+        ensures err { OnErr result (self.new ≡ self.old) }
+    {
+        let mut members = more.members;
+        self.members.append(&mut members)?;
+        Ok(())
+    }
+
+    /// The first member, where there is one. The others are dropped.
+    pub fn into_first(self) -> Option<T>
+        ensures { result ≡ slice_get self 0 }
+    {
+        let mut members = self.members;
+        if members.is_empty() {
+            None
+        } else {
+            Some(members.swap_remove(0))
+        }
+    }
+
     /// Puts another member in the place of member `i`, and gives that one.
     pub(crate) fn replace(&mut self, i: usize, member: T) -> T
         requires { i < length self.old }

@@ -1,11 +1,4 @@
-pub mod Steps
-pub mod Numbers
-pub mod PlainIds
-pub mod Labels
-pub mod Spellings
-pub mod Elements
-pub mod Sequences
-pub mod Pages
-pub mod Documents
-pub mod Values
-pub mod Plainness
+-- Lemmas for the reader's code.
+pub mod Lists
+pub mod Giving
+pub mod LoopLaws

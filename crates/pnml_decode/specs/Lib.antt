@@ -1,3 +1,6 @@
--- What the readers of this crate give, as functions on lists of bytes.
-pub mod Readable
-pub mod Reading
+-- How the reader is seen as the machine of pnml_grammar.
+pub mod Numbers
+pub mod Views
+pub mod Room
+pub mod Stops
+pub mod Faults

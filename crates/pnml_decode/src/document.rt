@@ -1,64 +1,129 @@
-ghost use Rattle.std.specs.Prelude.{◌≡◌, OnOk, IfOk, IfErr, List, ℕ};
-ghost use Rattle.net_values.specs.declared.document.Document.{Document as Tree};
-ghost use Rattle.net_values.specs.declared.document.Item.{Item as Listed};
-ghost use Rattle.pnml_grammar.specs.Canon.{canon};
-ghost use Rattle.pnml_grammar.specs.Plain.{Plain, PlainBytes, IsPlainId};
-ghost use Rattle.pnml_decode.specs.Readable.{IsReadInner, IsPageOf, page_rest};
+ghost use Rattle.std.specs.Prelude.{◌≡◌, ◌≤◌, ℕ, length, IfOk, IfErr, IsUtf8};
+ghost use Rattle.pnml_grammar.specs.Tokens.{TokenAt, first_place};
+ghost use Rattle.pnml_grammar.specs.Documents.{DocBytes};
+ghost use Rattle.pnml_grammar.specs.Machine.{start};
+ghost use Rattle.pnml_grammar.specs.ReadTo.{IsReadTo};
+ghost use Rattle.pnml_token.specs.Steps.{IfToken, IfEnd};
+ghost use Rattle.pnml_decode.specs.Views.{view};
+ghost use Rattle.pnml_decode.specs.Faults.{NamesFirstFault, IsMissing, missing_reason, declaration_end, refusal_at as the_refusal};
 
 use crate::fault::DocFault;
-use crate::ids::text_of_id;
-use crate::opening::read_opening;
-use crate::page::read_page;
-use net_values::{Document, Item, Items, NetTree, PageNode};
+use crate::reader::Reader;
+use crate::stop::Stop;
+use net_values::Document;
+use pnml_grammar::{Reason, Token};
+use pnml_token::{Step, TokenFault, token_at};
+use simdutf8::compat::from_utf8;
 use std::alloc::Global;
 
-/// The items of the page with this id: the page's start, its items, and its end.
-fn page_items(alloc: Global, page: &[u8], rest: &[u8]) -> Result<Items, DocFault>
-    requires { IsPlainId page.now }
-    ensures found { IfOk result (λ items. IsPageOf page.now items rest.now) }
-    ensures not_plain { IfErr result (λ fault. fault ≡ DocFault.NotPlain →
-        (inner : List Listed) → IsReadInner inner → rest.now ≡ page_rest inner → ⊥) }
-{
-    let id = text_of_id(alloc, page)?;
-    let mut items = Items::new(alloc);
-    items.push(Item::Page(PageNode { id, name: None }))?;
-    match read_page(alloc, &mut items, rest) {
-        Ok(()) => {}
-        Err(fault) => return Err(fault),
-    }
-    items.push(Item::PageEnd)?;
-    Ok(items)
-}
-
-/// The plain document whose canonical text the bytes are. Errors: `NotPlain`, exactly where there is none;
-/// `NoMemory`. The input is read once, from front to end.
+/// The one document that the bytes spell. It is PNML (ISO/IEC 15909-2) in a narrow profile of XML 1.0.
+///
+/// Errors, in this order: `NotUtf8(length)` exactly where the bytes aren't UTF-8, with the length of their
+/// longest front that is; `At(offset, reason)` exactly where a place is faulty, the first such, with the
+/// first reason that applies there; `Truncated(length)` exactly where the bytes begin a document and end
+/// before it is whole. `NoMemory` where memory runs out.
 pub fn decode(alloc: Global, bytes: &[u8]) -> Result<Document, DocFault>
-    ensures found { IfOk result (λ document. PlainBytes document bytes.now) }
-    ensures not_plain { IfErr result (λ fault. fault ≡ DocFault.NotPlain → (document : Tree) → PlainBytes document bytes.now → ⊥) }
+    ensures found { IfOk result (λ document. DocBytes document bytes.now) }
+    ensures fault { IfErr result (λ refusal. NamesFirstFault refusal bytes.now) }
 {
-    let Some(opening) = read_opening(bytes) else {
-        return Err(DocFault::NotPlain);
-    };
-    let items = match page_items(alloc, opening.page, opening.rest) {
-        Ok(items) => items,
-        Err(fault) => return Err(fault),
-    };
-    let id = text_of_id(alloc, opening.net)?;
-    Ok(Document {
-        net: NetTree {
-            id,
-            name: None,
-            items,
-        },
-    })
+    if let Err(stop) = from_utf8(bytes) {
+        return Err(DocFault::NotUtf8(stop.valid_up_to() as u64));
+    }
+    let reader = read_tokens(alloc, bytes)?;
+    match reader.finish() {
+        Some(document) => Ok(document),
+        None => Err(DocFault::Truncated(bytes.len() as u64)),
+    }
 }
 
-/// The law that two plain documents with one canonical text are one. It does nothing.
-pub fn canonical_text_tells_documents_apart()
-    ensures { (first second : Tree) → Plain first → Plain second → canon first ≡ canon second → first ≡ second }
-{}
+/// Takes the tokens one after the other, to the end of the bytes.
+fn read_tokens(alloc: Global, bytes: &[u8]) -> Result<Reader, DocFault>
+    requires { IsUtf8 bytes.now }
+    ensures read { IfOk result (λ reader. IsReadTo bytes.now (length bytes.now) (view reader)) }
+    ensures fault { IfErr result (λ refusal. NamesFirstFault refusal bytes.now) }
+{
+    let mut reader = Reader::start(alloc);
+    let mut place = behind_declaration(alloc, bytes)?;
+    while let Step::Token(token, end) = step_at(alloc, bytes, place)? {
+        match reader.take(token) {
+            Ok(()) => place = end,
+            Err(stop) => return Err(refusal_at(place, stop)),
+        }
+    }
+    Ok(reader)
+}
 
-/// The law that bytes are those of at most one plain document. It does nothing.
-pub fn one_document()
-    ensures { (first second : Tree) (bytes : List ℕ) → PlainBytes first bytes → PlainBytes second bytes → first ≡ second }
-{}
+/// What is answered where the reading stops at the offset.
+fn refusal_at(place: usize, stop: Stop) -> DocFault
+    ensures { result ≡ the_refusal place stop }
+{
+    match stop {
+        Stop::NoMemory => DocFault::NoMemory,
+        Stop::Because(reason) => DocFault::At(place as u64, reason),
+    }
+}
+
+/// The offset of the first token that is no declaration in front.
+fn behind_declaration(alloc: Global, bytes: &[u8]) -> Result<usize, DocFault>
+    requires { IsUtf8 bytes.now }
+    ensures read { IfOk result (λ place. IsReadTo bytes.now place start) }
+    ensures inside { IfOk result (λ place. place ≤ length bytes.now) }
+    ensures fault { IfErr result (λ refusal. NamesFirstFault refusal bytes.now) }
+{
+    let place = behind_mark(bytes);
+    let step = step_at(alloc, bytes, place)?;
+    match end_of_declaration(&step) {
+        Some(end) => Ok(end),
+        None => Ok(place),
+    }
+}
+
+/// The end of the declaration that stands there, if one does.
+fn end_of_declaration(step: &Step) -> Option<usize>
+    ensures { result ≡ declaration_end step.now }
+{
+    match step {
+        Step::Token(Token::Declaration, end) => Some(*end),
+        _ => None,
+    }
+}
+
+/// The offset behind the byte order mark, or of the front where there is none.
+fn behind_mark(bytes: &[u8]) -> usize
+    ensures place { result ≡ first_place bytes.now }
+    ensures inside { result ≤ length bytes.now }
+{
+    if bytes.starts_with(b"\xEF\xBB\xBF") {
+        3
+    } else {
+        0
+    }
+}
+
+/// The token that stands at the offset, and its end, or that the bytes end there.
+fn step_at(alloc: Global, bytes: &[u8], place: usize) -> Result<Step, DocFault>
+    requires { place ≤ length bytes.now }
+    ensures token { IfOk result (λ step. IfToken step (λ token e. TokenAt bytes.now place token e)) }
+    ensures end { IfOk result (λ step. IfEnd step (place ≡ length bytes.now)) }
+    ensures fault { IfErr result (λ refusal. IsMissing refusal bytes.now place) }
+{
+    match token_at(alloc, bytes, place) {
+        Ok(step) => Ok(step),
+        Err(TokenFault::NoMemory) => Err(DocFault::NoMemory),
+        Err(TokenFault::BadToken(at)) => Err(DocFault::At(
+            at as u64,
+            reason_without_token(&bytes[at..]),
+        )),
+    }
+}
+
+/// Why bytes are refused that no token spells: they begin a document type, or nothing that is known.
+fn reason_without_token(rest: &[u8]) -> Reason
+    ensures { result ≡ missing_reason rest.now }
+{
+    if rest.starts_with(b"<!DOCTYPE") {
+        Reason::Doctype
+    } else {
+        Reason::BadToken
+    }
+}

@@ -1,11 +1,17 @@
 use net_values::NoMemory;
+use pnml_grammar::Reason;
 
 /// Why bytes give no document.
-#[derive(Clone, Copy, Debug)]
+#[derive(Clone, Copy, Debug, PartialEq, Eq)]
 pub enum DocFault {
+    /// The system refused memory.
     NoMemory,
-    /// The bytes are no plain document's.
-    NotPlain,
+    /// The bytes aren't UTF-8; their longest front that is has this length.
+    NotUtf8(u64),
+    /// At this offset, the first such, the document is refused for this reason.
+    At(u64, Reason),
+    /// No place is at fault, and the bytes end, after so many, before the document is whole.
+    Truncated(u64),
 }
 
 impl From<NoMemory> for DocFault {

@@ -1,17 +1,23 @@
-//! Reads a plain document: `decode` gives the one document whose canonical text the bytes are, and says
-//! `NotPlain` exactly where there is none.
+//! Reads documents: `decode` gives the one document that the bytes spell, and where they spell none the
+//! first fault, with its offset and its reason.
 #![tactic(auto)]
 
+mod attributes;
+mod content;
 mod counts;
 mod document;
+mod elements;
 mod fault;
-mod ids;
-mod item;
-mod items;
-mod literal;
+mod nodes;
 mod number;
-mod opening;
-mod page;
+mod open;
+mod reader;
+mod reasons;
+mod stop;
 
-pub use document::{canonical_text_tells_documents_apart, decode, one_document};
+pub use document::decode;
 pub use fault::DocFault;
+pub use pnml_grammar::{Counted, Reason};
+
+#[cfg(test)]
+mod tests;

@@ -1,65 +1,79 @@
-ghost use Rattle.std.specs.Prelude.{◌≡◌, ◌≤◌, length};
-ghost use Rattle.std.specs.List.{prefix_len};
-ghost use Rattle.pnml_decode.specs.Reading.{is_digit, number_of, number_at, label_at, seen};
+ghost use Rattle.std.specs.Prelude.{◌≡◌};
+ghost use Rattle.std.specs.Str.Parse.{digits_value};
+ghost use Rattle.pnml_grammar.specs.Characters.{is_space};
+ghost use Rattle.pnml_grammar.specs.Runs.{passed, behind};
+ghost use Rattle.pnml_grammar.specs.Numerals.{is_digit, is_white, numeral, number_in};
+ghost use Rattle.pnml_decode.specs.Numbers.{AreDigits, narrow, narrow_if_any};
 
-use crate::literal::skip;
-use itoa::Buffer;
+use pnml_grammar::Context;
 
-/// How many digits stand at the front.
-fn digits_len(bytes: &[u8]) -> usize
-    ensures value { result ≡ prefix_len is_digit bytes.now }
-    ensures within { result ≤ length bytes.now }
+/// White space alone.
+pub(crate) fn is_white(bytes: &[u8]) -> bool
+    ensures { result ≡ is_white bytes.now }
 {
-    bytes
+    bytes.iter().all(|byte| is_space(*byte))
+}
+
+/// The number of an initial marking, or of an inscription, which is at least 1.
+#[tactic(auto, unfolding(pnml_grammar::specs::Numerals::number_in))]
+pub(crate) fn number_in(context: Context, bytes: &[u8]) -> Option<u64>
+    ensures { result ≡ number_in context bytes.now }
+{
+    let number = numeral(bytes)?;
+    match context {
+        Context::MarkingText => Some(number),
+        Context::WeightText if number >= 1 => Some(number),
+        _ => None,
+    }
+}
+
+/// Decimal digits between white space, as a number below 2^64.
+#[tactic(auto, unfolding(pnml_grammar::specs::Numerals::numeral))]
+fn numeral(bytes: &[u8]) -> Option<u64>
+    ensures { result ≡ narrow_if_any (numeral bytes.now) }
+{
+    let (digits, rest) = split_digits(past_space(bytes));
+    if digits.is_empty() || !is_white(rest) {
+        None
+    } else {
+        number(digits)
+    }
+}
+
+/// The number that the digits write, where it is below 2^64.
+fn number(digits: &[u8]) -> Option<u64>
+    requires { AreDigits digits.now }
+    ensures { result ≡ narrow (digits_value 10 digits.now) }
+{
+    match std::str::from_utf8(digits) {
+        Ok(text) => text.parse::<u64>().ok(),
+        Err(_) => unreachable!(),
+    }
+}
+
+/// The digits at the front, and what stands behind them.
+fn split_digits(bytes: &[u8]) -> (&[u8], &[u8])
+    ensures digits { result.0.now ≡ passed is_digit bytes.now }
+    ensures rest { result.1.now ≡ behind is_digit bytes.now }
+{
+    let count = bytes
         .iter()
         .take_while(|byte| byte.is_ascii_digit())
-        .count()
+        .count();
+    bytes.split_at(count)
 }
 
-/// The number whose decimal text the digits are.
-fn number(digits: &[u8]) -> Option<u64>
-    ensures { result ≡ number_of digits.now }
+/// What stands behind the white space at the front.
+fn past_space(bytes: &[u8]) -> &[u8]
+    ensures { result.now ≡ behind is_space bytes.now }
 {
-    let Ok(text) = std::str::from_utf8(digits) else {
-        return None;
-    };
-    let Ok(number) = text.parse::<u64>() else {
-        return None;
-    };
-    let mut buffer = Buffer::new();
-    if text == buffer.format(number) {
-        Some(number)
-    } else {
-        None
-    }
+    let count = bytes.iter().take_while(|byte| is_space(**byte)).count();
+    &bytes[count..]
 }
 
-/// A number, and what stands behind it.
-#[tactic(auto, unfolding(crate::specs::Reading::number_at))]
-fn number_in_front(bytes: &[u8]) -> Option<(u64, &[u8])>
-    ensures { seen (λ number. number) result ≡ number_at bytes.now }
+/// White space (XML 1.0, production 3, S).
+fn is_space(byte: u8) -> bool
+    ensures { result ≡ is_space byte }
 {
-    let (digits, rest) = bytes.split_at(digits_len(bytes));
-    let number = number(digits)?;
-    Some((number, rest))
-}
-
-/// A number above the usual one, between the texts that open and close its label.
-#[tactic(auto, unfolding(crate::specs::Reading::label_at))]
-pub(crate) fn label<'a>(
-    usual: u64,
-    opening: &[u8],
-    closing: &[u8],
-    bytes: &'a [u8],
-) -> Option<(u64, &'a [u8])>
-    ensures { seen (λ number. number) result ≡ label_at usual opening.now closing.now bytes.now }
-{
-    let inside = skip(opening, bytes)?;
-    let (number, rest) = number_in_front(inside)?;
-    let rest = skip(closing, rest)?;
-    if usual < number {
-        Some((number, rest))
-    } else {
-        None
-    }
+    byte == b'\t' || byte == b'\n' || byte == b'\r' || byte == b' '
 }

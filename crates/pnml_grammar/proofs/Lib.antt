@@ -45,3 +45,5 @@ pub mod CanonItems
 pub mod CanonPages
 pub mod CanonReading
 pub mod CanonLaws
+pub mod ReadToLaws
+pub mod FaultLaws

@@ -22,5 +22,6 @@ pub mod Counts
 pub mod Documents
 pub mod Machine
 pub mod FirstFault
+pub mod ReadTo
 pub mod LegalTexts
 pub mod CanonicalTexts

@@ -1,13 +1,15 @@
--- Where the opening or the page is refused, no plain document has these bytes; else the parts are one.
-use Rattle.pnml_decode.proofs.Plainness.{no_opening, no_page, is_plain}
+-- What was read to the end spells the document, or is cut.
+use Rattle.std.proofs.Common.{sym, ◌∙◌}
+use Rattle.pnml_grammar.proofs.FaultLaws.{text_stops, whole_is_spelled, whole_is_truncated}
+use Rattle.pnml_decode.specs.Views.{view}
 use Rattle.pnml_decode.proofs.document.decode.Goals as goal
 
-pub returns-in_default-clause-not_plain : goal.returns-in_default-clause-not_plain
-returns-in_default-clause-not_plain c is document plain = no_opening document _ c.in_default.ensures.read plain
+pub returns-in-Err-clause-fault : goal.returns-in-Err-clause-fault
+returns-in-Err-clause-fault c = rw c.valid_up_to.ensures (text_stops c.args.bytes.now _ c.in-Err.ensures.cases.0 c.in-Err.ensures.cases.1)
 
-pub returns-in-Err-clause-not_plain : goal.returns-in-Err-clause-not_plain
-returns-in-Err-clause-not_plain c is document plain =
-    no_page document _ _ _ _ c.in-Some.ensures.read (c.in-Err.ensures.not_plain is) plain
+pub returns-in-None-clause-fault : goal.returns-in-None-clause-fault
+returns-in-None-clause-fault c =
+    whole_is_truncated c.args.bytes.now (view c.in_ok-reader.reader) c.in_default.ensures.cases.1 c.in_ok-reader.ensures.read (sym c.finish.ensures ∙ c.in-None.is)
 
-pub returns-clause-found : goal.returns-clause-found
-returns-clause-found c = is_plain _ _ _ _ _ _ c.in-Some.ensures.found c.in-Ok.ensures.found c.in_ok-id.ensures
+pub returns-in-Some-clause-found : goal.returns-in-Some-clause-found
+returns-in-Some-clause-found c = whole_is_spelled c.args.bytes.now (view c.in_ok-reader.reader) c.in-Some.document c.in_ok-reader.ensures.read (sym c.finish.ensures ∙ c.in-Some.is)

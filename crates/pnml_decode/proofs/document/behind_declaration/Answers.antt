@@ -1,0 +1,26 @@
+-- A declaration leads nowhere; where none stands nothing was read.
+use Rattle.std.proofs.Common.{◌≡◌, ℕ, ◌≤◌, length, None, Some, ap, subst, sym, ◌∙◌}
+use Rattle.std.proofs.lemmas.Result.{err_from_is_err_and}
+use Rattle.pnml_grammar.specs.Tokens.{TokenAt}
+use Rattle.pnml_grammar.specs.Machine.{start}
+use Rattle.pnml_grammar.specs.ReadTo.{IsReadTo}
+use Rattle.pnml_token.specs.Steps.{IfToken, IfEnd}
+use Rattle.pnml_decode.specs.Faults.{IsMissing}
+use Rattle.pnml_decode.proofs.LoopLaws.{missing_in_front, nothing_in_front, declaration_in_front}
+use Rattle.pnml_decode.proofs.document.behind_declaration.Goals as goal
+
+pub returns-in_err-step-clause-fault : goal.returns-in_err-step-clause-fault
+returns-in_err-step-clause-fault c =
+    let p = err_from_is_err_and c.from_residual.result c.from_residual.ensures.1 in
+    rw (p.1, p.2) (missing_in_front _ c.args.bytes.now c.behind_mark-place.result c.requires c.behind_mark-place.ensures.place c.in_err-step.ensures.fault)
+
+pub returns-in-Some-clause-read : goal.returns-in-Some-clause-read
+returns-in-Some-clause-read c =
+    (declaration_in_front c.args.bytes.now c.behind_mark-place.result _ _ c.behind_mark-place.ensures.place c.in_ok-step.ensures.token (sym c.end_of_declaration.ensures ∙ c.in-Some.is)).0
+
+pub returns-in-Some-clause-inside : goal.returns-in-Some-clause-inside
+returns-in-Some-clause-inside c =
+    (declaration_in_front c.args.bytes.now c.behind_mark-place.result _ _ c.behind_mark-place.ensures.place c.in_ok-step.ensures.token (sym c.end_of_declaration.ensures ∙ c.in-Some.is)).1
+
+pub returns-clause-read : goal.returns-clause-read
+returns-clause-read c = nothing_in_front c.args.bytes.now c.behind_mark-place.result _ c.behind_mark-place.ensures.place c.in_ok-step.ensures.token c.in_ok-step.ensures.end (sym c.end_of_declaration.ensures ∙ c.in-None.is)

@@ -1,0 +1,48 @@
+-- The reader as a state of the machine: the open elements from the inside out.
+use Rattle.std.specs.Prelude.{List, map, reverse}
+use Rattle.pnml_grammar.specs.Contents.{Content as Given}
+use Rattle.pnml_grammar.specs.Counts.{Counts as Counted}
+use Rattle.pnml_grammar.specs.Machine.{Frame, State}
+use Rattle.pnml_decode.specs.declared.content.Content.{Content}
+use Rattle.pnml_decode.specs.declared.counts.Counts.{Counts}
+use Rattle.pnml_decode.specs.declared.open.Open.{Open}
+use Rattle.pnml_decode.specs.declared.reader.Reader.{Reader}
+
+abbrev pub given : Content → Given
+given c = record {
+  nets = c.nets;
+  items = c.items;
+  names = c.names;
+  numbers = c.numbers;
+  texts = c.texts;
+  bytes = c.bytes;
+  numerals = c.numerals;
+}
+
+abbrev pub counted : Counts → Counted
+counted c = record {
+  places = c.places;
+  transitions = c.transitions;
+  arcs = c.arcs;
+  references = c.references;
+  pages = c.pages;
+}
+
+abbrev pub frame : Open → Frame
+frame element = record {
+  context = element.context;
+  name = element.name;
+  attributes = element.attributes;
+  content = given element.content;
+}
+
+-- the elements around the innermost one; the outermost was opened first
+abbrev pub frames : List Open → List Frame
+frames opens = reverse (map frame opens)
+
+abbrev pub view : Reader → State
+view reader = record {
+  top = frame reader.top;
+  under = frames reader.under.items;
+  counts = counted reader.counts;
+}

@@ -1,0 +1,101 @@
+//! Where a document is refused and why, row by row, and the limits from both sides.
+mod faulty;
+mod limits;
+mod whole;
+
+use crate::{DocFault, Reason, decode};
+use faulty::Faulty;
+use std::alloc::{AllocError, Global};
+use std::process::Abort;
+use std::test::Fail;
+
+/// The front of a document, up to what its net has.
+const OPENING: &[u8] =
+    b"<pnml xmlns='http://www.pnml.org/version-2009/grammar/pnml'><net id='n' type='http://www.pnml.org/version-2009/grammar/ptnet'>";
+
+/// Its end.
+const CLOSING: &[u8] = b"</net></pnml>";
+
+/// The fault of the bytes, if they spell no document.
+fn fault(alloc: Global, bytes: &[u8]) -> Option<DocFault> {
+    match decode(alloc, bytes) {
+        Ok(_) => None,
+        Err(fault) => Some(fault),
+    }
+}
+
+/// The pieces one after the other.
+fn joined(alloc: Global, pieces: &[&[u8]]) -> Result<Vec<u8>, AllocError> {
+    let mut text = Vec::new(alloc);
+    for piece in pieces {
+        text.extend_from_slice(piece)?;
+    }
+    Ok(text)
+}
+
+/// Each row's fault is found behind the head, at its offset, for its reason.
+fn check_faults(
+    rt: &impl Abort,
+    alloc: Global,
+    head: &[u8],
+    rows: &[Faulty],
+) -> Result<(), AllocError> {
+    for &(before, after, reason) in rows {
+        let front = joined(alloc, &[head, before])?;
+        let text = joined(alloc, &[front.as_slice(), after])?;
+        let wanted = Some(DocFault::At(front.len() as u64, reason));
+        assert_eq!(rt;
+            fault(alloc, text.as_slice()),
+            wanted,
+            "{before:?} {after:?}"
+        );
+    }
+    Ok(())
+}
+
+#[test]
+fn the_first_fault_is_named(rt: HostRuntime) -> Result<(), Fail> {
+    check_faults(&rt, rt.alloc(), b"", &faulty::FROM_THE_FRONT)?;
+    check_faults(&rt, rt.alloc(), OPENING, &faulty::IN_A_NET)?;
+    Ok(())
+}
+
+/// Bytes that stop before the document is whole or aren't UTF-8, and their fault.
+const CUT: [(&[u8], DocFault); 11] = [
+    (b"", DocFault::Truncated(0)),
+    (b"\xEF\xBB\xBF", DocFault::Truncated(3)),
+    (b" ", DocFault::Truncated(1)),
+    (b"<?xml version='1.0'?>", DocFault::Truncated(21)),
+    (b"<?xml version='1.0'?", DocFault::At(0, Reason::BadToken)),
+    (b"<!---->\n", DocFault::Truncated(8)),
+    (b"\xEF\xBB", DocFault::NotUtf8(0)),
+    (b"\xFF", DocFault::NotUtf8(0)),
+    (b"<1>\xC3\xA9\xC3", DocFault::NotUtf8(5)),
+    (b"<!DOCTYPE \xED\xA0\x80>", DocFault::NotUtf8(10)),
+    (b"x\xF4\x90\x80\x80", DocFault::NotUtf8(1)),
+];
+
+#[test]
+fn cut_inputs_are_told(rt: HostRuntime) -> Result<(), Fail> {
+    for (text, wanted) in CUT {
+        assert_eq!(rt; fault(rt.alloc(), text), Some(wanted), "{text:?}");
+    }
+    for inside in whole::IN_A_NET {
+        let text = joined(rt.alloc(), &[OPENING, inside])?;
+        let wanted = Some(DocFault::Truncated(text.len() as u64));
+        assert_eq!(rt; fault(rt.alloc(), text.as_slice()), wanted, "{inside:?}");
+    }
+    Ok(())
+}
+
+#[test]
+fn documents_are_decoded(rt: HostRuntime) -> Result<(), Fail> {
+    for text in whole::DOCUMENTS {
+        assert_eq!(rt; fault(rt.alloc(), text), None, "{text:?}");
+    }
+    for inside in whole::IN_A_NET {
+        let text = joined(rt.alloc(), &[OPENING, inside, CLOSING])?;
+        assert_eq!(rt; fault(rt.alloc(), text.as_slice()), None, "{inside:?}");
+    }
+    Ok(())
+}

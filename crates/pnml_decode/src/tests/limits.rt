@@ -1,0 +1,217 @@
+use super::{CLOSING, OPENING, fault, joined};
+use crate::{Counted, DocFault, Reason};
+use std::alloc::{AllocError, Global};
+use std::process::Abort;
+use std::test::Fail;
+
+/// A value between two texts: it may have so many bytes, and with more the token at `offset` bytes behind
+/// the front is refused.
+#[derive(Clone, Copy)]
+struct Value {
+    before: &'static [u8],
+    after: &'static [u8],
+    limit: usize,
+    offset: usize,
+    reason: Reason,
+}
+
+const VALUES: [Value; 6] = [
+    Value {
+        before: b"<place id='",
+        after: b"'/>",
+        limit: 4_096,
+        offset: 0,
+        reason: Reason::BadAttribute,
+    },
+    Value {
+        before: b"<arc id='a' target='t' source='",
+        after: b"'/>",
+        limit: 4_096,
+        offset: 0,
+        reason: Reason::BadAttribute,
+    },
+    Value {
+        before: b"<arc id='a' source='p' target='",
+        after: b"'></arc>",
+        limit: 4_096,
+        offset: 0,
+        reason: Reason::BadAttribute,
+    },
+    Value {
+        before: b"<referenceTransition id='r' ref='",
+        after: b"'/>",
+        limit: 4_096,
+        offset: 0,
+        reason: Reason::BadAttribute,
+    },
+    Value {
+        before: b"<name><text>",
+        after: b"</text></name>",
+        limit: 65_536,
+        offset: 12,
+        reason: Reason::TooMany(Counted::NameBytes),
+    },
+    Value {
+        before: b"<name><text>a<![CDATA[",
+        after: b"]]></text></name>",
+        limit: 65_535,
+        offset: 13,
+        reason: Reason::TooMany(Counted::NameBytes),
+    },
+];
+
+/// A piece that may stand so many times, and the tag that is refused behind the last one.
+#[derive(Clone, Copy)]
+struct Count {
+    before: &'static [u8],
+    piece: &'static [u8],
+    limit: usize,
+    next: &'static [u8],
+    after: &'static [u8],
+    reason: Reason,
+}
+
+const COUNTS: [Count; 10] = [
+    Count {
+        before: b"",
+        piece: b"<place id='p'/>",
+        limit: 2_048,
+        next: b"<place id='p'>",
+        after: b"",
+        reason: Reason::TooMany(Counted::Places),
+    },
+    Count {
+        before: b"",
+        piece: b"<transition id='t'/>",
+        limit: 2_048,
+        next: b"<transition id='t'/>",
+        after: b"",
+        reason: Reason::TooMany(Counted::Transitions),
+    },
+    Count {
+        before: b"",
+        piece: b"<arc id='a' source='p' target='t'/>",
+        limit: 65_536,
+        next: b"<arc id='a' source='p' target='t'/>",
+        after: b"",
+        reason: Reason::TooMany(Counted::Arcs),
+    },
+    Count {
+        before: b"",
+        piece: b"<referencePlace id='r' ref='p'/><referenceTransition id='r' ref='t'/>",
+        limit: 2_048,
+        next: b"<referencePlace id='r' ref='p'/>",
+        after: b"",
+        reason: Reason::TooMany(Counted::References),
+    },
+    Count {
+        before: b"<referencePlace id='r' ref='p'/>",
+        piece: b"<referenceTransition id='r' ref='t'></referenceTransition>",
+        limit: 4_095,
+        next: b"<referenceTransition id='r' ref='t'>",
+        after: b"",
+        reason: Reason::TooMany(Counted::References),
+    },
+    Count {
+        before: b"",
+        piece: b"<page id='g'/>",
+        limit: 1_024,
+        next: b"<page id='g'>",
+        after: b"",
+        reason: Reason::TooMany(Counted::Pages),
+    },
+    Count {
+        before: b"<graphics><page/><place/></graphics>",
+        piece: b"<page id='g'></page>",
+        limit: 1_024,
+        next: b"<page id='g'/>",
+        after: b"",
+        reason: Reason::TooMany(Counted::Pages),
+    },
+    Count {
+        before: b"",
+        piece: b"<page id='g'>",
+        limit: 126,
+        next: b"<place id='p'/>",
+        after: b"</page>",
+        reason: Reason::TooDeep,
+    },
+    Count {
+        before: b"",
+        piece: b"<page id='g'>",
+        limit: 126,
+        next: b"<text/>",
+        after: b"</page>",
+        reason: Reason::Misplaced,
+    },
+    Count {
+        before: b"",
+        piece: b"<graphics>",
+        limit: 126,
+        next: b"<a/>",
+        after: b"</graphics>",
+        reason: Reason::TooDeep,
+    },
+];
+
+/// The piece as many times as is said, one behind the other.
+fn repeated(alloc: Global, piece: &[u8], count: usize) -> Result<Vec<u8>, AllocError> {
+    let mut text = Vec::new(alloc);
+    for _ in 0..count {
+        text.extend_from_slice(piece)?;
+    }
+    Ok(text)
+}
+
+/// The fault of a document whose net has a value of so many bytes.
+fn fault_of_value(
+    alloc: Global,
+    value: &Value,
+    bytes: usize,
+) -> Result<Option<DocFault>, AllocError> {
+    let letters = repeated(alloc, b"x", bytes)?;
+    let pieces = [
+        OPENING,
+        value.before,
+        letters.as_slice(),
+        value.after,
+        CLOSING,
+    ];
+    let text = joined(alloc, &pieces)?;
+    Ok(fault(alloc, text.as_slice()))
+}
+
+#[test]
+fn values_are_bounded(rt: HostRuntime) -> Result<(), Fail> {
+    for value in VALUES.iter() {
+        let refused = DocFault::At((OPENING.len() + value.offset) as u64, value.reason);
+        assert_eq!(rt; fault_of_value(rt.alloc(), value, value.limit - 1)?, None);
+        assert_eq!(rt; fault_of_value(rt.alloc(), value, value.limit)?, None);
+        assert_eq!(rt;
+            fault_of_value(rt.alloc(), value, value.limit + 1)?,
+            Some(refused)
+        );
+    }
+    Ok(())
+}
+
+/// As many pieces as may stand are decoded, and the tag behind them is refused.
+fn check_count(rt: &impl Abort, alloc: Global, count: &Count) -> Result<(), AllocError> {
+    let pieces = repeated(alloc, count.piece, count.limit)?;
+    let ends = repeated(alloc, count.after, count.limit)?;
+    let front = joined(alloc, &[OPENING, count.before, pieces.as_slice()])?;
+    let whole = joined(alloc, &[front.as_slice(), ends.as_slice(), CLOSING])?;
+    assert_eq!(rt; fault(alloc, whole.as_slice()), None);
+    let more = joined(alloc, &[front.as_slice(), count.next])?;
+    let refused = DocFault::At(front.len() as u64, count.reason);
+    assert_eq!(rt; fault(alloc, more.as_slice()), Some(refused));
+    Ok(())
+}
+
+#[test]
+fn elements_are_counted(rt: HostRuntime) -> Result<(), Fail> {
+    for count in COUNTS.iter() {
+        check_count(&rt, rt.alloc(), count)?;
+    }
+    Ok(())
+}

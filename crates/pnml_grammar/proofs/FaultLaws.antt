@@ -1,0 +1,157 @@
+-- Reading token by token tells the document, or the first place that is faulty and why: a faulty place isn't
+-- before what was read, since the tokens up to it would go on by one of those that were. So what is read to
+-- the end has no faulty place, and one that stops a reading is the first.
+use Rattle.std.proofs.Common.{◌≡◌, ℕ, ◌<◌, ◌≤◌, List, [], ◌∷◌, ◌++◌, Option, Some, None, refl, sym, ap, subst, ◌∙◌, arith, inl, inr, length, append_assoc, append-nil}
+use Rattle.std.specs.Prelude.{◌⊎◌, IsUtf8}
+use Rattle.std.specs.List.{AllByRecursion}
+use Rattle.std.specs.Str.{IsValidUpTo}
+use Rattle.net_values.specs.declared.document.Document.{Document}
+use Rattle.pnml_grammar.specs.declared.reason.Reason.{Reason}
+use Rattle.pnml_grammar.specs.declared.token.Token.{Token}
+use Rattle.pnml_grammar.specs.Tokens.{TokenAt, TokensTo, first_place}
+use Rattle.pnml_grammar.specs.LegalTexts.{HasLegalTexts}
+use Rattle.pnml_grammar.specs.Runs.{◌>>=◌}
+use Rattle.pnml_grammar.specs.Documents.{DocBytes}
+use Rattle.pnml_grammar.specs.Machine.{State, reason_of, finish, reached, read}
+use Rattle.pnml_grammar.specs.FirstFault.{IsBehind, state_of, Begins, IsFaulty, HasNoToken, HasBadToken, IsFirstFaulty, FirstFault, not_utf8, truncated}
+use Rattle.pnml_grammar.specs.ReadTo.{IsReadTo}
+use Rattle.pnml_grammar.proofs.LegalLaws.{token_is_legal}
+use Rattle.pnml_grammar.proofs.PlaceLaws.{token_end_inside, token_goes_on, tokens_ascend, GoesOn, IsLonger, one_goes_on}
+use Rattle.pnml_grammar.proofs.TokenLaws.{one_token_stands}
+use Rattle.pnml_grammar.proofs.ReadToLaws.{reached_front, token_is_refused}
+use Rattle.pnml_grammar.proofs.DocumentLaws.{spells_read, reached_spot, read_spells, begins_reached, reached_begins}
+
+-- ---- what was read begins a document
+
+tokens_are_legal : (bytes : List ℕ) (list : List Token) (k e : ℕ) → TokensTo bytes k list e → AllByRecursion HasLegalTexts list
+tokens_are_legal bytes [] k e to = tt
+tokens_are_legal bytes (token ∷ list) k e to = (token_is_legal bytes k token to.0 to.1, tokens_are_legal bytes list to.0 e to.2)
+
+legal_front : (list more : List Token) → AllByRecursion HasLegalTexts (list ++ more) → AllByRecursion HasLegalTexts list
+legal_front [] more legal = tt
+legal_front (token ∷ list) more legal = (legal.0, legal_front list more legal.1)
+
+read_is_legal : (bytes : List ℕ) (k : ℕ) (state : State) (read : IsReadTo bytes k state) → AllByRecursion HasLegalTexts read.list
+read_is_legal bytes k state read = tokens_are_legal bytes read.list (first_place bytes) k read.reaches
+
+read_begins : (bytes : List ℕ) (k : ℕ) (state : State) (read : IsReadTo bytes k state) → Begins read.list
+read_begins bytes k state read = reached_begins read.list state (read_is_legal bytes k state read) read.leads
+
+-- so does a front of it
+front_begins : (list more : List Token) (state : State) → AllByRecursion HasLegalTexts (list ++ more) → reached (list ++ more) ≡ Some state → Begins list
+front_begins list more state legal leads =
+    let front = reached_front list more state leads in
+    reached_begins list front.0 (legal_front list more legal) front.1
+
+one_more_begins : (list other more : List Token) (token : Token) (state : State) → list ≡ other ++ token ∷ more → AllByRecursion HasLegalTexts list → reached list ≡ Some state
+    → Begins (other ++ token ∷ [])
+one_more_begins list other more token state parts legal leads =
+    let whole : list ≡ (other ++ token ∷ []) ++ more = parts ∙ sym (append_assoc other (token ∷ []) more) in
+    front_begins (other ++ token ∷ []) more state (subst (AllByRecursion HasLegalTexts) whole legal) (ap reached (sym whole) ∙ leads)
+
+-- ---- no place before what was read is faulty
+
+faulty_behind : (bytes : List ℕ) (k : ℕ) (state : State) → IsReadTo bytes k state → (j : ℕ) → IsFaulty bytes j → k ≤ j
+faulty_behind bytes k state read j faulty =
+    elim (one_goes_on bytes read.list faulty.list (first_place bytes) k j read.reaches faulty.reaches) [
+      | inl on ↦ tokens_ascend bytes on.more k j on.reaches
+      | inr longer ↦
+          absurd (faulty.nothing_next longer.token longer.end longer.stands
+          (one_more_begins read.list faulty.list longer.more longer.token state longer.parts (read_is_legal bytes k state read) read.leads))
+    ]
+
+-- where no token stands, the reading stops at the first faulty place
+pub missing_token_is_faulty : (bytes : List ℕ) (k : ℕ) (state : State) (reason : Reason) → IsReadTo bytes k state → k < length bytes → HasNoToken bytes k reason → IsFirstFaulty bytes k reason
+missing_token_is_faulty bytes k state reason read inside missing = record {
+  faulty = record {
+    list = read.list;
+    reaches = read.reaches;
+    begins = read_begins bytes k state read;
+    inside = inside;
+    nothing_next = λ token e at begins. missing.nothing_there token e at;
+  };
+  lowest = faulty_behind bytes k state read;
+  because = inl missing;
+}
+
+nothing_reached : (list : List Token) → reached list ≡ None → Begins list → ⊥
+nothing_reached list none begins =
+    let some = begins_reached list begins in
+    let both = sym none ∙ some.1 in
+    absurd cc
+
+-- where a reason applies to the token that stands there, too
+pub refused_token_is_faulty : (bytes : List ℕ) (k : ℕ) (state : State) (token : Token) (e : ℕ) (reason : Reason) → IsReadTo bytes k state → TokenAt bytes k token e
+    → reason_of state token ≡ Some reason → IsFirstFaulty bytes k reason
+refused_token_is_faulty bytes k state token e reason read at some =
+    let spot = reached_spot read.list state read.leads in
+    record {
+      faulty = record {
+        list = read.list;
+        reaches = read.reaches;
+        begins = read_begins bytes k state read;
+        inside = omega (arith, token_goes_on bytes k token e at, token_end_inside bytes k token e at);
+        nothing_next = λ other f there begins.
+            nothing_reached (read.list ++ token ∷ []) (token_is_refused bytes k state token e reason read at some)
+            (subst (λ (t : Token). Begins (read.list ++ t ∷ [])) (one_token_stands bytes k other token f e there at).0 begins);
+      };
+      lowest = faulty_behind bytes k state read;
+      because = inr record {
+        list = read.list;
+        reaches = read.reaches;
+        spot = spot.0;
+        behind = spot.1;
+        token = token;
+        end = e;
+        stands = at;
+        applies = ap (λ (s : State). reason_of s token) spot.2 ∙ some;
+      };
+    }
+
+-- ---- what was read to the end
+
+read_whole : (bytes : List ℕ) (k : ℕ) (state : State) (read_to : IsReadTo bytes k state) → read read_to.list ≡ finish state
+unfolding read
+read_whole bytes k state read_to = ap (λ (o : Option State). o >>= finish) read_to.leads
+
+-- spells the document that it comes to
+pub whole_is_spelled : (bytes : List ℕ) (state : State) (document : Document) → IsReadTo bytes (length bytes) state → finish state ≡ Some document → DocBytes document bytes
+whole_is_spelled bytes state document read_to is = record {
+  list = read_to.list;
+  tokens_are = read_to.reaches;
+  spells = read_spells document read_to.list (read_is_legal bytes (length bytes) state read_to) (read_whole bytes (length bytes) state read_to ∙ is);
+}
+
+nothing_behind : (bytes : List ℕ) (list other : List Token) → GoesOn bytes list other (length bytes) (length bytes) ⊎ IsLonger bytes list other (length bytes) → other ≡ list
+nothing_behind bytes list other (inl on) = on.parts ∙ none on.more on.reaches
+  where
+    none : (more : List Token) → TokensTo bytes (length bytes) more (length bytes) → list ++ more ≡ list
+    none [] to = append-nil list
+    none (token ∷ more) to = absurd (omega (arith, token_goes_on bytes (length bytes) token to.0 to.1, token_end_inside bytes (length bytes) token to.0 to.1))
+nothing_behind bytes list other (inr longer) =
+    absurd (omega (arith, token_goes_on bytes (length bytes) longer.token longer.end longer.stands, token_end_inside bytes (length bytes) longer.token longer.end longer.stands))
+
+no_document : (bytes : List ℕ) (state : State) → IsReadTo bytes (length bytes) state → finish state ≡ None → (document : Document) → DocBytes document bytes → ⊥
+no_document bytes state read_to none document is =
+    let same = nothing_behind bytes read_to.list is.list (one_goes_on bytes read_to.list is.list (first_place bytes) (length bytes) (length bytes) read_to.reaches is.tokens_are) in
+    let spelled = spells_read document is.list is.spells in
+    let both = sym (ap read same ∙ read_whole bytes (length bytes) state read_to ∙ none) ∙ spelled in
+    absurd cc
+
+-- or is cut
+pub whole_is_truncated : (bytes : List ℕ) (state : State) → IsUtf8 bytes → IsReadTo bytes (length bytes) state → finish state ≡ None → FirstFault bytes (truncated (length bytes))
+whole_is_truncated bytes state text read_to none =
+    (text, λ j faulty. absurd (omega (arith, faulty_behind bytes (length bytes) state read_to j faulty, faulty.inside)), no_document bytes state read_to none, refl)
+
+-- ---- text
+
+-- bytes that aren't UTF-8 stop to be so where their longest front that is ends
+pub text_stops : (bytes : List ℕ) (k : ℕ) → (IsUtf8 bytes → ⊥) → IsValidUpTo bytes k → FirstFault bytes (not_utf8 k)
+text_stops bytes k none valid = (
+  none,
+  record {
+    inside = omega (arith, valid.short);
+    front = valid.front;
+    longest = λ j behind inside text. valid.longest j behind text;
+  },
+)

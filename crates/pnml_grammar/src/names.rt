@@ -1,0 +1,38 @@
+ghost use Rattle.std.specs.Prelude.{◌≡◌, bytes_eq, position};
+
+/// A table of names.
+pub struct Names<const N: usize> {
+    pub names: [&'static [u8]; N],
+}
+
+/// The names of the elements that are read (ISO/IEC 15909-2).
+pub const ELEMENTS: Names<14> = Names {
+    names: [
+        b"pnml",
+        b"net",
+        b"page",
+        b"place",
+        b"transition",
+        b"arc",
+        b"referencePlace",
+        b"referenceTransition",
+        b"name",
+        b"initialMarking",
+        b"inscription",
+        b"text",
+        b"graphics",
+        b"toolspecific",
+    ],
+};
+
+/// The names of the attributes that are read (ISO/IEC 15909-2).
+pub const ATTRIBUTES: Names<6> = Names {
+    names: [b"id", b"type", b"source", b"target", b"ref", b"xmlns"],
+};
+
+/// The lowest index of the name, where it is there.
+pub fn find_in(names: &[&'static [u8]], name: &[u8]) -> Option<usize>
+    ensures { result ≡ position (λ other. bytes_eq other.now name.now) names.now }
+{
+    names.iter().position(|other| *other == name)
+}
