@@ -1,3 +1,5 @@
 -- Lemmas for the reader's code.
 pub mod Lists
 pub mod Giving
+pub mod Digits
+pub mod Around

@@ -43,10 +43,7 @@ impl Reader {
     {
         match self.top.context {
             Context::Skipped => self.depth_reason(),
-            _ => match ElementKind::named(name) {
-                None => Some(Reason::UnknownElement),
-                Some(element) => self.tag_reason(empty, attributes, element),
-            },
+            _ => self.tag_reason(empty, attributes, ElementKind::named(name)),
         }
     }
 
@@ -69,9 +66,12 @@ impl Reader {
     }
 
     /// Of a tag outside skipped parts.
-    fn tag_reason(&self, empty: bool, attributes: &[Attribute], element: ElementKind) -> Option<Reason>
-        ensures { result ≡ first_row (tag_rows (view self.now) empty attributes.now (Some element)) }
+    fn tag_reason(&self, empty: bool, attributes: &[Attribute], element: Option<ElementKind>) -> Option<Reason>
+        ensures { result ≡ first_row (tag_rows (view self.now) empty attributes.now element) }
     {
+        let Some(element) = element else {
+            return Some(Reason::UnknownElement);
+        };
         if !has_namespace(element, attributes) {
             return Some(Reason::OtherNamespace);
         }
