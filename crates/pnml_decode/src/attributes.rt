@@ -67,7 +67,11 @@ fn fits(element: ElementKind, attribute: &Attribute) -> bool
 {
     let name = attribute.name.as_bytes();
     has_colon(name)
-        || fits_as_if_any(element, AttributeKind::named(name), attribute.value.as_bytes())
+        || fits_as_if_any(
+            element,
+            AttributeKind::named(name),
+            attribute.value.as_bytes(),
+        )
 }
 
 fn has_colon(name: &[u8]) -> bool

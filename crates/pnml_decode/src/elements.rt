@@ -22,7 +22,8 @@ pub(crate) fn is_pnml(element: ElementKind) -> bool
 pub(crate) fn is_number_text(context: Context, element: ElementKind) -> bool
     ensures { result ≡ is_number_text context element }
 {
-    matches!(context, Context::InitialMarking | Context::Inscription) && matches!(element, ElementKind::Text)
+    matches!(context, Context::InitialMarking | Context::Inscription)
+        && matches!(element, ElementKind::Text)
 }
 
 /// What the children of an element stand in; everything in a skipped part is skipped.
@@ -77,7 +78,9 @@ pub(crate) fn may_hold(context: Context, element: ElementKind) -> bool
             is_name(element) || is_node_or_page(element) || is_skipped(element)
         }
         Context::Place => {
-            matches!(element, ElementKind::InitialMarking) || is_name(element) || is_skipped(element)
+            matches!(element, ElementKind::InitialMarking)
+                || is_name(element)
+                || is_skipped(element)
         }
         Context::Arc => {
             matches!(element, ElementKind::Inscription) || is_name(element) || is_skipped(element)

@@ -3,12 +3,18 @@ ghost use Rattle.pnml_grammar.specs.Contents.{first_value, value_in, id_in};
 
 use crate::attributes::value_of;
 use crate::content::Content;
-use net_values::{ArcNode, List, NetTree, NoMemory, PageNode, PlaceNode, RefNode, Text, TransitionNode};
+use net_values::{
+    ArcNode, List, NetTree, NoMemory, PageNode, PlaceNode, RefNode, Text, TransitionNode,
+};
 use pnml_grammar::Attributes;
 use std::alloc::Global;
 
 /// The net of a closed element.
-pub(crate) fn net(alloc: Global, attributes: &Attributes, content: Content) -> Result<NetTree, NoMemory>
+pub(crate) fn net(
+    alloc: Global,
+    attributes: &Attributes,
+    content: Content,
+) -> Result<NetTree, NoMemory>
     ensures { IfOk result (λ net. net ≡ record { id = id_in attributes.now; name = first_value content.names; items = content.items }) }
 {
     let Content { names, items, .. } = content;
@@ -20,7 +26,11 @@ pub(crate) fn net(alloc: Global, attributes: &Attributes, content: Content) -> R
 }
 
 /// The start of the page of a closed element.
-pub(crate) fn page(alloc: Global, attributes: &Attributes, names: List<Option<Text>>) -> Result<PageNode, NoMemory>
+pub(crate) fn page(
+    alloc: Global,
+    attributes: &Attributes,
+    names: List<Option<Text>>,
+) -> Result<PageNode, NoMemory>
     ensures { IfOk result (λ page. page ≡ record { id = id_in attributes.now; name = first_value names }) }
 {
     Ok(PageNode {
@@ -29,11 +39,15 @@ pub(crate) fn page(alloc: Global, attributes: &Attributes, names: List<Option<Te
     })
 }
 
-pub(crate) fn place(alloc: Global, attributes: &Attributes, content: Content) -> Result<PlaceNode, NoMemory>
+pub(crate) fn place(
+    alloc: Global,
+    attributes: &Attributes,
+    content: Content,
+) -> Result<PlaceNode, NoMemory>
     ensures { IfOk result (λ place. place ≡ record {
-        id = id_in attributes.now;
-        name = first_value content.names;
-        initial = unwrap_or (first_value content.numbers) 0;
+      id = id_in attributes.now;
+      name = first_value content.names;
+      initial = unwrap_or (first_value content.numbers) 0;
     }) }
 {
     let Content { names, numbers, .. } = content;
@@ -44,7 +58,11 @@ pub(crate) fn place(alloc: Global, attributes: &Attributes, content: Content) ->
     })
 }
 
-pub(crate) fn transition(alloc: Global, attributes: &Attributes, names: List<Option<Text>>) -> Result<TransitionNode, NoMemory>
+pub(crate) fn transition(
+    alloc: Global,
+    attributes: &Attributes,
+    names: List<Option<Text>>,
+) -> Result<TransitionNode, NoMemory>
     ensures { IfOk result (λ transition. transition ≡ record { id = id_in attributes.now; name = first_value names }) }
 {
     Ok(TransitionNode {
@@ -53,13 +71,17 @@ pub(crate) fn transition(alloc: Global, attributes: &Attributes, names: List<Opt
     })
 }
 
-pub(crate) fn arc(alloc: Global, attributes: &Attributes, content: Content) -> Result<ArcNode, NoMemory>
+pub(crate) fn arc(
+    alloc: Global,
+    attributes: &Attributes,
+    content: Content,
+) -> Result<ArcNode, NoMemory>
     ensures { IfOk result (λ arc. arc ≡ record {
-        id = id_in attributes.now;
-        name = first_value content.names;
-        source = value_in (codes "source") attributes.now;
-        target = value_in (codes "target") attributes.now;
-        weight = unwrap_or (first_value content.numbers) 1;
+      id = id_in attributes.now;
+      name = first_value content.names;
+      source = value_in (codes "source") attributes.now;
+      target = value_in (codes "target") attributes.now;
+      weight = unwrap_or (first_value content.numbers) 1;
     }) }
 {
     let Content { names, numbers, .. } = content;
@@ -73,11 +95,15 @@ pub(crate) fn arc(alloc: Global, attributes: &Attributes, content: Content) -> R
 }
 
 /// A reference node of either kind.
-pub(crate) fn reference(alloc: Global, attributes: &Attributes, names: List<Option<Text>>) -> Result<RefNode, NoMemory>
+pub(crate) fn reference(
+    alloc: Global,
+    attributes: &Attributes,
+    names: List<Option<Text>>,
+) -> Result<RefNode, NoMemory>
     ensures { IfOk result (λ node. node ≡ record {
-        id = id_in attributes.now;
-        name = first_value names;
-        target = value_in (codes "ref") attributes.now;
+      id = id_in attributes.now;
+      name = first_value names;
+      target = value_in (codes "ref") attributes.now;
     }) }
 {
     Ok(RefNode {

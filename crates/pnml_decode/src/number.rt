@@ -60,7 +60,10 @@ fn split_digits(bytes: &[u8]) -> (&[u8], &[u8])
 fn digits_length(bytes: &[u8]) -> usize
     ensures { result ≡ prefix_len is_digit bytes.now }
 {
-    bytes.iter().take_while(|byte| byte.is_ascii_digit()).count()
+    bytes
+        .iter()
+        .take_while(|byte| byte.is_ascii_digit())
+        .count()
 }
 
 /// What stands behind the white space at the front.

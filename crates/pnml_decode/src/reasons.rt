@@ -66,7 +66,12 @@ impl Reader {
     }
 
     /// Of a tag outside skipped parts.
-    fn tag_reason(&self, empty: bool, attributes: &[Attribute], element: Option<ElementKind>) -> Option<Reason>
+    fn tag_reason(
+        &self,
+        empty: bool,
+        attributes: &[Attribute],
+        element: Option<ElementKind>,
+    ) -> Option<Reason>
         ensures { result ≡ first_row (tag_rows (view self.now) empty attributes.now element) }
     {
         let Some(element) = element else {
