@@ -2,4 +2,3 @@
 pub mod Lists
 pub mod Giving
 pub mod Digits
-pub mod Around
