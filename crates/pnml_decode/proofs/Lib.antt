@@ -2,3 +2,4 @@
 pub mod Lists
 pub mod Giving
 pub mod LoopLaws
+pub mod Digits
