@@ -44,7 +44,7 @@ fn read_tokens(alloc: Global, bytes: &[u8]) -> Result<Reader, DocFault>
 {
     let mut reader = Reader::start(alloc);
     let mut place = behind_declaration(alloc, bytes)?;
-    while let Step::Token(token, end) = step_at(alloc, bytes, place)? {
+    'tokens: while let Step::Token(token, end) = step_at(alloc, bytes, place)? {
         match reader.take(token) {
             Ok(()) => place = end,
             Err(stop) => return Err(refusal_at(place, stop)),
