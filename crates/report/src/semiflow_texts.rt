@@ -1,0 +1,97 @@
+ghost use Rattle.std.specs.Prelude.{◌≡◌, ◌++◌, ◌<◌, All, IfOk, OnOk, codes, length};
+ghost use Rattle.std.specs.List.{flat_map, join_with_byte};
+ghost use Rattle.net_values.specs.FlatNets.{net_of};
+ghost use Rattle.report.specs.Nodes.{count_of, id_of, place_id, transition_id};
+ghost use Rattle.report.specs.Texts.{semiflow_line, semiflows_text as semiflow_report, term, terms};
+
+use crate::lines::Lines;
+use crate::nodes::Nodes;
+use net_values::{FlatNet, NoMemory, Rows, Text, Vector};
+use std::alloc::Global;
+
+/// The text of `places`: a line for each semiflow of places, with its positive entries in order, each as its
+/// number, `*` and the id of its place, and last how many there are.
+pub fn place_semiflows_text(alloc: Global, net: &FlatNet, rows: &Rows) -> Result<Text, NoMemory>
+    requires { All (λ row. length row ≡ (net_of net.now).places) rows.now }
+    ensures { IfOk result (λ text. text ≡ semiflow_report (place_id net.now) rows.now) }
+{
+    semiflows_text(alloc, Nodes::Places, net, rows)
+}
+
+/// The text of `transitions`: likewise for semiflows of transitions, with the ids of the transitions.
+pub fn transition_semiflows_text(
+    alloc: Global,
+    net: &FlatNet,
+    rows: &Rows,
+) -> Result<Text, NoMemory>
+    requires { All (λ row. length row ≡ (net_of net.now).transitions) rows.now }
+    ensures { IfOk result (λ text. text ≡ semiflow_report (transition_id net.now) rows.now) }
+{
+    semiflows_text(alloc, Nodes::Transitions, net, rows)
+}
+
+#[tactic(auto, unfolding(crate::specs::Texts::semiflows_text))]
+fn semiflows_text(alloc: Global, nodes: Nodes, net: &FlatNet, rows: &Rows) -> Result<Text, NoMemory>
+    requires { All (λ row. length row ≡ count_of nodes net.now) rows.now }
+    ensures { IfOk result (λ text. text ≡ semiflow_report (id_of nodes net.now) rows.now) }
+{
+    let mut lines = Lines::new(alloc);
+    lines.push_semiflows(nodes, net, rows.as_slice())?;
+    lines.push_count("semiflows", rows.len())?;
+    Ok(lines.into_text())
+}
+
+impl Lines {
+    /// Appends the lines of semiflows.
+    fn push_semiflows(
+        &mut self,
+        nodes: Nodes,
+        net: &FlatNet,
+        rows: &[Vector],
+    ) -> Result<(), NoMemory>
+        requires { All (λ row. length row ≡ count_of nodes net.now) rows.now }
+        ensures { let line = semiflow_line (id_of nodes net.now) in
+            OnOk result (self.new ≡ self.old ++ flat_map line rows.now) }
+    {
+        for row in rows {
+            self.push_semiflow(nodes, net, row)?;
+        }
+        Ok(())
+    }
+
+    /// Appends the line of a semiflow.
+    fn push_semiflow(&mut self, nodes: Nodes, net: &FlatNet, row: &Vector) -> Result<(), NoMemory>
+        requires { length row.now ≡ count_of nodes net.now }
+        ensures { OnOk result (self.new ≡ self.old ++ semiflow_line (id_of nodes net.now) row.now) }
+    {
+        self.push_terms(nodes, net, row.as_slice())?;
+        self.push("\n")
+    }
+
+    /// Appends the positive entries, with one space between.
+    fn push_terms(&mut self, nodes: Nodes, net: &FlatNet, entries: &[u128]) -> Result<(), NoMemory>
+        requires { length entries.now ≡ count_of nodes net.now }
+        ensures { let pieces = terms (id_of nodes net.now) entries.now in
+            OnOk result (self.new ≡ self.old ++ join_with_byte 32 pieces) }
+    {
+        let mut is_first = true;
+        for i in 0..entries.len() {
+            if entries[i] > 0 {
+                self.push_space(is_first)?;
+                self.push_term(entries[i], nodes.id(net, i))?;
+                is_first = false;
+            }
+        }
+        Ok(())
+    }
+
+    /// Appends an entry with the id of its node.
+    #[tactic(auto, unfolding(crate::specs::Texts::term))]
+    fn push_term(&mut self, entry: u128, id: &str) -> Result<(), NoMemory>
+        ensures { OnOk result (self.new ≡ self.old ++ term entry id.now) }
+    {
+        self.push_number(entry)?;
+        self.push("*")?;
+        self.push(id)
+    }
+}

@@ -1,0 +1,169 @@
+use super::*;
+use net_class::Class;
+use net_values::{Document, FlatNet, Items, NetTree, NoMemory, PlaceSet, Rows, Sets, Text, Vector};
+use std::alloc::Global;
+use std::process::Abort;
+use std::test::Fail;
+
+/// What a text is to tell.
+#[derive(Clone, Copy)]
+enum Told<'a> {
+    Check,
+    Class(bool, bool, bool, bool),
+    Places(&'a [&'a [i128]]),
+    Transitions(&'a [&'a [i128]]),
+    Siphons(&'a [&'a [usize]]),
+    Traps(&'a [&'a [usize]]),
+}
+
+/// A net with the places `p`, `q` and `é<`, the transitions `t` and `u`, and an arc of weight 7.
+fn small_net(rt: &impl Abort, alloc: Global) -> Result<FlatNet, NoMemory> {
+    let mut net = FlatNet::new(alloc);
+    for id in ["p", "q", "é<"] {
+        assert!(rt; net.places() < 8);
+        let mut text = Text::new(alloc);
+        text.push(id)?;
+        net.add_place(text, 0)?;
+    }
+    for id in ["t", "u"] {
+        assert!(rt; net.transitions() < 8);
+        let mut text = Text::new(alloc);
+        text.push(id)?;
+        net.add_transition(text)?;
+    }
+    assert!(rt; net.places() > 0 && net.transitions() > 0 && net.arcs() < 8);
+    net.add_input(0, 0, 7)?;
+    Ok(net)
+}
+
+/// A document without items, whose id counts for nothing.
+fn empty_document(alloc: Global) -> Document {
+    Document {
+        net: NetTree {
+            id: Text::new(alloc),
+            name: None,
+            items: Items::new(alloc),
+        },
+    }
+}
+
+fn rows_of(rt: &impl Abort, alloc: Global, lists: &[&[i128]]) -> Result<Rows, NoMemory> {
+    let mut rows = Rows::new(alloc);
+    for list in lists {
+        assert!(rt; list.len() <= 8);
+        let mut row = Vector::zeros(alloc, list.len())?;
+        for (i, entry) in list.iter().enumerate() {
+            assert!(rt; i < row.len() && *entry >= 0);
+            row.set(i, *entry);
+        }
+        assert!(rt; rows.as_slice().iter().all(|other| other.len() == row.len()));
+        rows.push(row)?;
+    }
+    Ok(rows)
+}
+
+fn sets_of(
+    rt: &impl Abort,
+    alloc: Global,
+    size: usize,
+    lists: &[&[usize]],
+) -> Result<Sets, NoMemory> {
+    assert!(rt; size <= 8);
+    let mut sets = Sets::new(alloc);
+    for list in lists {
+        let mut set = PlaceSet::new(alloc, size)?;
+        for p in *list {
+            assert!(rt; *p < set.size());
+            set.insert(*p);
+        }
+        assert!(rt;
+            sets.as_slice()
+                .iter()
+                .all(|other| other.size() == set.size())
+        );
+        sets.push(set)?;
+    }
+    Ok(sets)
+}
+
+fn text_of(rt: &impl Abort, alloc: Global, net: &FlatNet, told: Told) -> Result<Text, NoMemory> {
+    match told {
+        Told::Check => check_text(alloc, &empty_document(alloc), net),
+        Told::Class(ordinary, state_machine, marked_graph, free_choice) => {
+            let class = Class {
+                ordinary,
+                state_machine,
+                marked_graph,
+                free_choice,
+            };
+            class_text(alloc, class)
+        }
+        Told::Places(lists) => {
+            let rows = rows_of(rt, alloc, lists)?;
+            assert!(rt; rows.as_slice().iter().all(|row| row.len() == net.places()));
+            place_semiflows_text(alloc, net, &rows)
+        }
+        Told::Transitions(lists) => {
+            let rows = rows_of(rt, alloc, lists)?;
+            assert!(rt;
+                rows.as_slice()
+                    .iter()
+                    .all(|row| row.len() == net.transitions())
+            );
+            transition_semiflows_text(alloc, net, &rows)
+        }
+        Told::Siphons(lists) => {
+            let sets = sets_of(rt, alloc, net.places(), lists)?;
+            assert!(rt; sets.as_slice().iter().all(|set| set.size() == net.places()));
+            siphons_text(alloc, net, &sets)
+        }
+        Told::Traps(lists) => {
+            let sets = sets_of(rt, alloc, net.places(), lists)?;
+            assert!(rt; sets.as_slice().iter().all(|set| set.size() == net.places()));
+            traps_text(alloc, net, &sets)
+        }
+    }
+}
+
+#[test]
+fn texts_of_a_small_net(rt: HostRuntime) -> Result<(), Fail> {
+    let alloc = rt.alloc();
+    let net = small_net(&rt, alloc)?;
+    for (told, wanted) in [
+        (Told::Check, "places 3 transitions 2 arcs 1\n"),
+        (
+            Told::Class(true, false, true, false),
+            "ordinary yes\nstate-machine no\nmarked-graph yes\nfree-choice no\n",
+        ),
+        (
+            Told::Class(false, true, false, true),
+            "ordinary no\nstate-machine yes\nmarked-graph no\nfree-choice yes\n",
+        ),
+        (Told::Places([].as_slice()), "semiflows 0\n"),
+        (
+            Told::Places([
+                [0, 10, 170141183460469231731687303715884105727].as_slice(),
+                [1, 0, 2].as_slice(),
+                [0, 0, 0].as_slice(),
+            ]
+            .as_slice()),
+            "10*q 170141183460469231731687303715884105727*é<\n1*p 2*é<\n\nsemiflows 3\n",
+        ),
+        (
+            Told::Transitions([[1, 0].as_slice(), [3, 20].as_slice()].as_slice()),
+            "1*t\n3*t 20*u\nsemiflows 2\n",
+        ),
+        (
+            Told::Siphons([[2].as_slice(), [2, 0].as_slice(), [0, 1, 2].as_slice()].as_slice()),
+            "é<\np é<\np q é<\nsiphons 3\n",
+        ),
+        (
+            Told::Traps([[1].as_slice(), [].as_slice()].as_slice()),
+            "q\n\ntraps 2\n",
+        ),
+    ] {
+        let text = text_of(&rt, alloc, &net, told)?;
+        assert_eq!(rt; text.as_str(), wanted);
+    }
+    Ok(())
+}
