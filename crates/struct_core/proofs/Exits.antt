@@ -1,18 +1,18 @@
 -- The ways in which a run ends, one lemma each, over what the devices told: the facts of the last call are
 -- put beside the fields of the run that speak of its status, and the others are void.
-use Rattle.std.proofs.Common.{◌≡◌, ℕ, ◌≤◌, List, length, refl, sym, subst, arith, inl, inr, ◌⊎◌}
+use Rattle.std.proofs.Common.{◌≡◌, ℕ, ◌≤◌, List, [], length, refl, sym, subst, arith, inl, inr, ◌⊎◌}
 use Rattle.std.proofs.KnownBytes.{Keeps-refl}
 use Rattle.std.specs.Io.KnownBytes.{Appends}
 use Rattle.pnml_source.specs.Causes.{Rose}
 use Rattle.pnml_source.specs.Streams.{AppendsFront, TakesExactly, IsWholeInput}
 use Rattle.struct_core.specs.declared.order.Order.{Order}
 use Rattle.struct_core.specs.declared.refusal.Refusal.{Refusal}
-use Rattle.struct_core.specs.declared.refusal.Refusal.TheVariants.{NotPlain, NoMemory}
-use Rattle.struct_core.specs.Statuses.{status_of}
+use Rattle.struct_core.specs.Refusals.{status_of, line_of}
+use Rattle.struct_core.specs.Answers.{IsMemory, IsTold}
 use Rattle.struct_core.specs.Words.{Means}
-use Rattle.struct_core.specs.Texts.{fault_line}
+use Rattle.struct_core.specs.Lines.{usage_line, length_line, read_line, write_line, memory_line, OwnLine, usage, too_long, read_fault, write_fault, no_memory}
 use Rattle.struct_core.specs.Outcome.{Outcome}
-use Rattle.struct_core.specs.Run.{Device, IsUntouched, Ran}
+use Rattle.struct_core.specs.Run.{Device, IsUntouched, HasOwnLine, Ran}
 
 pub untouched : (one : Device) → IsUntouched one one
 untouched one = record { bytes = Keeps-refl one.bytes; faults = refl }
@@ -20,7 +20,7 @@ untouched one = record { bytes = Keeps-refl one.bytes; faults = refl }
 -- ---- runs that have no outcome; `out` wasn't touched
 
 -- the words mean nothing, and nothing was read
-pub no_order : (words : List (List ℕ)) (source out : Device) → ((order : Order) → Means words order → ⊥) → Ran words source source out out 2
+pub no_order : (words : List (List ℕ)) (source out : Device) → ((order : Order) → Means words order → ⊥) → Ran words source source out out 2 usage_line
 no_order words source out void = record {
   meant = λ other. absurd (other refl);
   usage = λ is. void;
@@ -31,10 +31,11 @@ no_order words source out void = record {
   answered = λ other. absurd (other.0 refl);
   write_fault = λ rose. absurd (omega arith);
   out_kept = λ other another. untouched out;
+  own = λ is. usage;
 }
 
 -- a read failed
-pub read_failed : (words : List (List ℕ)) (order : Order) (source source' out : Device) → Means words order → Rose source.faults source'.faults → Ran words source source' out out 8
+pub read_failed : (words : List (List ℕ)) (order : Order) (source source' out : Device) → Means words order → Rose source.faults source'.faults → Ran words source source' out out 8 read_line
 read_failed words order source source' out means rose = record {
   meant = λ other. (order, means);
   usage = λ is. absurd (omega (arith, is));
@@ -45,10 +46,11 @@ read_failed words order source source' out means rose = record {
   answered = λ other. absurd (other.2 refl);
   write_fault = λ more. absurd (omega arith);
   out_kept = λ other another. untouched out;
+  own = λ is. read_fault;
 }
 
 -- one byte more was taken than may be read
-pub input_too_long : (words : List (List ℕ)) (order : Order) (source source' out : Device) → Means words order → source'.faults ≡ source.faults → TakesExactly source.bytes source'.bytes 67108865 → Ran words source source' out out 7
+pub input_too_long : (words : List (List ℕ)) (order : Order) (source source' out : Device) → Means words order → source'.faults ≡ source.faults → TakesExactly source.bytes source'.bytes 67108865 → Ran words source source' out out 7 length_line
 input_too_long words order source source' out means kept taken = record {
   meant = λ other. (order, means);
   usage = λ is. absurd (omega (arith, is));
@@ -59,10 +61,11 @@ input_too_long words order source source' out means kept taken = record {
   answered = λ other. absurd (other.1 refl);
   write_fault = λ more. absurd (omega arith);
   out_kept = λ other another. untouched out;
+  own = λ is. too_long;
 }
 
 -- the system refused memory
-pub out_of_memory : (words : List (List ℕ)) (order : Order) (source source' out : Device) → Means words order → source'.faults ≡ source.faults → Ran words source source' out out 10
+pub out_of_memory : (words : List (List ℕ)) (order : Order) (source source' out : Device) → Means words order → source'.faults ≡ source.faults → Ran words source source' out out 10 memory_line
 out_of_memory words order source source' out means kept = record {
   meant = λ other. (order, means);
   usage = λ is. absurd (omega (arith, is));
@@ -73,6 +76,7 @@ out_of_memory words order source source' out means kept = record {
   answered = λ other. absurd (other.3 refl);
   write_fault = λ more. absurd (omega arith);
   out_kept = λ other another. untouched out;
+  own = λ is. no_memory;
 }
 
 -- ---- runs with an outcome: the whole input was read without a fault
@@ -87,9 +91,14 @@ pub reads_as : (source source' : Device) (input bytes : List ℕ) → input ≡ 
 reads_as source source' input bytes same whole short kept =
     subst (ReadsWhole source source') (sym same) (record { bytes = whole; short = short; kept = kept })
 
--- the document is refused
-pub refused : (words : List (List ℕ)) (order : Order) (source source' out : Device) (input : List ℕ) → Means words order → ReadsWhole source source' input → Outcome order input 3 (fault_line 3) → Ran words source source' out out 3
-refused words order source source' out input means reads comes = record {
+-- a status in the middle has no line of its own
+middle : (status : ℕ) → 3 ≤ status → status ≤ 6 → (line : List ℕ) → HasOwnLine status → OwnLine status line
+middle status low high line (inl is) = absurd (omega (arith, is))
+middle status low high line (inr late) = absurd (omega arith)
+
+-- the outcome is a status in the middle, with its line
+pub refused : (words : List (List ℕ)) (order : Order) (source source' out : Device) (input : List ℕ) (status : ℕ) (line : List ℕ) → 3 ≤ status → status ≤ 6 → Means words order → ReadsWhole source source' input → Outcome order input status line → Ran words source source' out out status line
+refused words order source source' out input status line low high means reads comes = record {
   meant = λ other. (order, means);
   usage = λ is. absurd (omega (arith, is));
   unread = λ is. absurd (omega (arith, is));
@@ -99,24 +108,30 @@ refused words order source source' out input means reads comes = record {
   answered = λ other. record {
     order = order;
     input = input;
-    outcome = 3;
-    text = fault_line 3;
+    outcome = status;
+    text = line;
     means = means;
     read = reads.bytes.taken;
     whole = reads.bytes.ended;
     short = reads.short;
     comes = comes;
-    refused = λ another. refl;
+    refused = λ another. (refl, refl);
     follows = λ is. absurd (omega (arith, is));
     done = λ is. absurd (omega (arith, is));
     cut = λ is. absurd (omega (arith, is));
   };
   write_fault = λ more. absurd (omega arith);
   out_kept = λ other another. untouched out;
+  own = middle status low high line;
 }
 
+-- neither has status 0
+no_own_line : {line : List ℕ} → HasOwnLine 0 → OwnLine 0 line
+no_own_line (inl is) = absurd (omega (arith, is))
+no_own_line (inr late) = absurd (omega arith)
+
 -- the text was written
-pub written : (words : List (List ℕ)) (order : Order) (source source' out out' : Device) (input text : List ℕ) → Means words order → ReadsWhole source source' input → Outcome order input 0 text → Appends out.bytes out'.bytes text → out'.faults ≡ out.faults → Ran words source source' out out' 0
+pub written : (words : List (List ℕ)) (order : Order) (source source' out out' : Device) (input text : List ℕ) → Means words order → ReadsWhole source source' input → Outcome order input 0 text → Appends out.bytes out'.bytes text → out'.faults ≡ out.faults → Ran words source source' out out' 0 []
 written words order source source' out out' input text means reads comes appends kept = record {
   meant = λ other. (order, means);
   usage = λ is. absurd (omega (arith, is));
@@ -141,10 +156,11 @@ written words order source source' out out' input text means reads comes appends
   };
   write_fault = λ more. absurd (omega arith);
   out_kept = λ other another. absurd (other refl);
+  own = no_own_line;
 }
 
 -- the text was written in part
-pub write_failed : (words : List (List ℕ)) (order : Order) (source source' out out' : Device) (input text : List ℕ) → Means words order → ReadsWhole source source' input → Outcome order input 0 text → AppendsFront out.bytes out'.bytes text → Rose out.faults out'.faults → Ran words source source' out out' 9
+pub write_failed : (words : List (List ℕ)) (order : Order) (source source' out out' : Device) (input text : List ℕ) → Means words order → ReadsWhole source source' input → Outcome order input 0 text → AppendsFront out.bytes out'.bytes text → Rose out.faults out'.faults → Ran words source source' out out' 9 write_line
 write_failed words order source source' out out' input text means reads comes appends rose = record {
   meant = λ other. (order, means);
   usage = λ is. absurd (omega (arith, is));
@@ -169,13 +185,14 @@ write_failed words order source source' out out' input text means reads comes ap
   };
   write_fault = λ more. refl;
   out_kept = λ other another. absurd (another refl);
+  own = λ is. write_fault;
 }
 
 -- the answer is a refusal of one kind or the other
-pub not_answered : (words : List (List ℕ)) (order : Order) (source source' out : Device) (input : List ℕ) (refusal : Refusal) → Means words order → ReadsWhole source source' input → (refusal ≡ NotPlain → Outcome order input 3 (fault_line 3)) → (refusal ≡ NotPlain) ⊎ (refusal ≡ NoMemory) → Ran words source source' out out (status_of refusal)
-not_answered words order source source' out input refusal means reads comes (inl plain) =
-    subst (λ (r : Refusal). Ran words source source' out out (status_of r)) (sym plain)
-    (refused words order source source' out input means reads (comes plain))
-not_answered words order source source' out input refusal means reads comes (inr memory) =
-    subst (λ (r : Refusal). Ran words source source' out out (status_of r)) (sym memory)
-    (out_of_memory words order source source' out means reads.kept)
+pub not_answered : (words : List (List ℕ)) (order : Order) (source source' out : Device) (input : List ℕ) (refusal : Refusal) → Means words order → ReadsWhole source source' input → IsMemory refusal ⊎ IsTold (Outcome order input) refusal → Ran words source source' out out (status_of refusal) (line_of refusal)
+not_answered words order source source' out input refusal means reads (inl memory) =
+    subst (λ (n : ℕ). Ran words source source' out out n (line_of refusal)) (sym memory.status)
+    (subst (λ (line : List ℕ). Ran words source source' out out 10 line) (sym memory.line)
+    (out_of_memory words order source source' out means reads.kept))
+not_answered words order source source' out input refusal means reads (inr told) =
+    refused words order source source' out input (status_of refusal) (line_of refusal) told.low told.high means reads told.outcome

@@ -1,1 +1,4 @@
 pub mod Exits
+pub mod Refusing
+pub mod Pieces
+pub mod Listing

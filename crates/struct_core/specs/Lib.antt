@@ -1,7 +1,9 @@
 -- What a run of the program means.
 pub mod Words
-pub mod Statuses
-pub mod Texts
-pub mod Elements
+pub mod Lines
+pub mod Refusals
+pub mod Columns
+pub mod Enumerations
 pub mod Outcome
+pub mod Answers
 pub mod Run

@@ -1,21 +1,61 @@
--- What an order gives for an input: a status and a text, or a status and its line.
-use Rattle.std.specs.Prelude.{◌≡◌, ℕ, ◌⊎◌, List}
+-- What an order gives for an input: a status and a text, or a status and the line that tells it.
+use Rattle.std.specs.Prelude.{◌≡◌, ◌↔◌, ℕ, List, IsTrue, codes}
 use Rattle.net_values.specs.declared.document.Document.{Document}
+use Rattle.net_values.specs.Net.{Net, reversed}
+use Rattle.net_values.specs.FlatNets.{NetLists, net_of}
+use Rattle.closed_sets.specs.Commoner.{IsOrdinary}
+use Rattle.net_class.specs.declared.membership.Class.{Class}
+use Rattle.net_class.specs.Classes.{IsStateMachine, IsMarkedGraph, IsFreeChoice}
+use Rattle.incidence.specs.Matrix.{incidence_of, transposed}
+use Rattle.report.specs.Nodes.{place_name, transition_name}
+use Rattle.report.specs.Texts.{check_text, class_text}
 use Rattle.pnml_grammar.specs.Canon.{canon}
-use Rattle.pnml_grammar.specs.Plain.{PlainBytes}
+use Rattle.pnml_grammar.specs.Documents.{DocBytes}
+use Rattle.pnml_grammar.specs.FirstFault.{Fault, FirstFault}
+use Rattle.page_flatten.specs.declared.fault.FlatFault.{FlatFault}
+use Rattle.page_flatten.specs.Rules.{FirstBroken, BreaksNoRule}
+use Rattle.page_flatten.specs.Flat.{Flat}
 use Rattle.struct_core.specs.declared.order.Task.{Task}
-use Rattle.struct_core.specs.declared.order.Task.TheVariants.{Check, Canon}
+use Rattle.struct_core.specs.declared.order.Task.TheVariants as tasks
+use Rattle.struct_core.specs.declared.order.Budgets.{Budgets}
 use Rattle.struct_core.specs.declared.order.Order.{Order}
 use Rattle.struct_core.specs.declared.order.Order.TheVariants.{Run}
-use Rattle.struct_core.specs.Texts.{check_text, fault_line}
+use Rattle.struct_core.specs.Lines.{document_line, rule_line}
+use Rattle.struct_core.specs.Enumerations.{SemiflowOutcome, SetOutcome}
 
--- the text of a task for a document
-abbrev pub task_text : Task → Document → List ℕ
-task_text Check document = check_text document
-task_text Canon document = canon document
+-- the classes to which a net belongs (Murata 1989)
+pub record HasClass (net : Net) (class : Class) : Type 0 where
+  pub ordinary : IsTrue class.ordinary ↔ IsOrdinary net
+  pub state_machine : IsTrue class.state_machine ↔ IsStateMachine net
+  pub marked_graph : IsTrue class.marked_graph ↔ IsMarkedGraph net
+  pub free_choice : IsTrue class.free_choice ↔ IsFreeChoice net
 
--- the text of the document whose bytes these are, or the line of status 3 where no plain document has them
-abbrev pub Outcome : Order → List ℕ → ℕ → List ℕ → Type 0
-Outcome (Run task budgets) bytes status text =
-    ((document : Document) × PlainBytes document bytes × (status ≡ 0) × (text ≡ task_text task document))
-    ⊎ (((document : Document) → PlainBytes document bytes → ⊥) × (status ≡ 3) × (text ≡ fault_line 3))
+-- what a task gives for a document that breaks no rule, and for its flat net. Traps are the siphons of the
+-- net with every arc turned round
+abbrev pub TaskOutcome : Task → Budgets → Document → NetLists → ℕ → List ℕ → Type 0
+TaskOutcome tasks.Check budgets document net status text =
+    (status ≡ 0) × (text ≡ check_text (net_of net).places (net_of net).transitions net.arcs)
+TaskOutcome tasks.Canon budgets document net status text = (status ≡ 0) × (text ≡ canon document)
+TaskOutcome tasks.Class budgets document net status text =
+    (status ≡ 0) × (class : Class) × HasClass (net_of net) class × (text ≡ class_text class)
+TaskOutcome tasks.Places budgets document net status text =
+    SemiflowOutcome (incidence_of (net_of net)) (place_name net) (transition_name net) budgets.rows status text
+TaskOutcome tasks.Transitions budgets document net status text =
+    SemiflowOutcome (transposed (incidence_of (net_of net))) (transition_name net) (place_name net) budgets.rows status text
+TaskOutcome tasks.Siphons budgets document net status text =
+    SetOutcome (net_of net) (codes "siphons") (place_name net) budgets.sets status text
+TaskOutcome tasks.Traps budgets document net status text =
+    SetOutcome (reversed (net_of net)) (codes "traps") (place_name net) budgets.sets status text
+
+-- what an order gives for an input
+pub data Outcome : Order → List ℕ → ℕ → List ℕ → Type 0 where
+  -- the bytes spell no document
+  no_document : (task : Task) (budgets : Budgets) (bytes : List ℕ) (fault : Fault) → FirstFault bytes fault
+      → Outcome (Run task budgets) bytes 3 (document_line fault)
+  -- they spell one that breaks a rule
+  broken : (task : Task) (budgets : Budgets) (bytes : List ℕ) (document : Document) (fault : FlatFault)
+      → DocBytes document bytes → FirstBroken document fault → Outcome (Run task budgets) bytes 3 (rule_line fault)
+  -- they spell one that breaks none
+  answer : (task : Task) (budgets : Budgets) (bytes : List ℕ) (document : Document) (net : NetLists) (status : ℕ) (text : List ℕ)
+      → DocBytes document bytes → BreaksNoRule document → Flat document net → TaskOutcome task budgets document net status text
+      → Outcome (Run task budgets) bytes status text

@@ -5,7 +5,7 @@ use Rattle.pnml_source.specs.Causes.{Rose}
 use Rattle.pnml_source.specs.Streams.{AppendsFront, TakesExactly}
 use Rattle.struct_core.specs.declared.order.Order.{Order}
 use Rattle.struct_core.specs.Words.{Means}
-use Rattle.struct_core.specs.Texts.{fault_line}
+use Rattle.struct_core.specs.Lines.{OwnLine}
 use Rattle.struct_core.specs.Outcome.{Outcome}
 
 -- a device as it is told: the bytes that it has left or holds, where it tells them, and its count of faults
@@ -30,8 +30,13 @@ Says old new line =
 abbrev pub IsAnswered : ℕ → Type 0
 IsAnswered status = (status ≢ 2) × (status ≢ 7) × (status ≢ 8) × (status ≢ 10)
 
+-- the statuses that have a line of their own, whatever the input
+abbrev pub HasOwnLine : ℕ → Type 0
+HasOwnLine status = (status ≡ 2) ⊎ (7 ≤ status)
+
 -- a run with an outcome: all of the input was read, and the text was written, or the outcome's status given
-pub record Answered (words : List (List ℕ)) (source source' out out' : Device) (status : ℕ) : Type 0 where
+-- with its line
+pub record Answered (words : List (List ℕ)) (source source' out out' : Device) (status : ℕ) (line : List ℕ) : Type 0 where
   pub order : Order
   pub input : List ℕ
   pub outcome : ℕ
@@ -41,13 +46,13 @@ pub record Answered (words : List (List ℕ)) (source source' out out' : Device)
   pub whole : IsAtEnd source'.bytes
   pub short : length input ≤ 67108864
   pub comes : Outcome order input outcome text
-  pub refused : outcome ≢ 0 → status ≡ outcome
+  pub refused : outcome ≢ 0 → (status ≡ outcome) × (line ≡ text)
   pub follows : outcome ≡ 0 → (status ≡ 0) ⊎ (status ≡ 9)
   pub done : status ≡ 0 → Appends out.bytes out'.bytes text
   pub cut : status ≡ 9 → Rose out.faults out'.faults × AppendsFront out.bytes out'.bytes text
 
--- a run, apart from what it tells the user on the sink for faults
-pub record Ran (words : List (List ℕ)) (source source' out out' : Device) (status : ℕ) : Type 0 where
+-- a run, apart from what it does to the sink for faults, to which the line goes
+pub record Ran (words : List (List ℕ)) (source source' out out' : Device) (status : ℕ) (line : List ℕ) : Type 0 where
   -- 2 exactly where the words mean nothing, and then nothing was read
   pub meant : status ≢ 2 → (order : Order) × Means words order
   pub usage : status ≡ 2 → (order : Order) → Means words order → ⊥
@@ -58,12 +63,20 @@ pub record Ran (words : List (List ℕ)) (source source' out out' : Device) (sta
   -- 7 where one byte more was taken than may be read; see `short` for the other direction
   pub too_long : status ≡ 7 → TakesExactly source.bytes source'.bytes 67108865
   -- else the outcome
-  pub answered : IsAnswered status → Answered words source source' out out' status
+  pub answered : IsAnswered status → Answered words source source' out out' status line
   -- 9 where the count of `out` rose; on every other status but 0 nothing happened to `out`
   pub write_fault : out.faults < out'.faults → status ≡ 9
   pub out_kept : status ≢ 0 → status ≢ 9 → IsUntouched out out'
+  -- the line where there is no outcome that gives one
+  pub own : HasOwnLine status → OwnLine status line
 
--- what the user is told: nothing on 0, else the line of the status
-pub record Tells (err err' : Device) (status : ℕ) : Type 0 where
+-- what the user is told: nothing on 0, else the line
+pub record Tells (err err' : Device) (status : ℕ) (line : List ℕ) : Type 0 where
   pub silent : status ≡ 0 → IsUntouched err err'
-  pub told : status ≢ 0 → Says err err' (fault_line status)
+  pub told : status ≢ 0 → Says err err' line
+
+-- a run
+pub record HasRun (words : List (List ℕ)) (source source' out out' err err' : Device) (status : ℕ) : Type 0 where
+  pub line : List ℕ
+  pub ran : Ran words source source' out out' status line
+  pub tells : Tells err err' status line

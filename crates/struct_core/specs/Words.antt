@@ -1,7 +1,7 @@
 -- Which words mean which order.
-use Rattle.std.specs.Prelude.{◌≡◌, ℕ, List, [], ◌∷◌, codes}
+use Rattle.std.specs.Prelude.{◌≡◌, ◌≢◌, ℕ, List, [], ◌∷◌, codes}
 use Rattle.struct_core.specs.declared.order.Task.{Task}
-use Rattle.struct_core.specs.declared.order.Task.TheVariants.{Check, Canon}
+use Rattle.struct_core.specs.declared.order.Task.TheVariants.{Check, Canon, Class, Places, Transitions, Siphons, Traps}
 use Rattle.struct_core.specs.declared.order.Order.{Order}
 use Rattle.struct_core.specs.declared.order.Order.TheVariants.{Run}
 use Rattle.struct_core.specs.declared.order.Budgets.{Budgets}
@@ -10,6 +10,11 @@ use Rattle.struct_core.specs.declared.order.Budgets.{Budgets}
 abbrev pub task_word : Task → List ℕ
 task_word Check = codes "check"
 task_word Canon = codes "canon"
+task_word Class = codes "class"
+task_word Places = codes "places"
+task_word Transitions = codes "transitions"
+task_word Siphons = codes "siphons"
+task_word Traps = codes "traps"
 
 -- the budgets where none are said
 abbrev pub default_budgets : Budgets
@@ -18,3 +23,8 @@ default_budgets = record { rows = 20000; sets = 100000 }
 -- the words are one task's word alone
 abbrev pub Means : List (List ℕ) → Order → Type 0
 Means words order = (task : Task) × (words ≡ task_word task ∷ []) × (order ≡ Run task default_budgets)
+
+-- the word of no task that lists what a net has
+abbrev pub IsNoEnumeration : List ℕ → Type 0
+IsNoEnumeration word =
+    (word ≢ task_word Places) × (word ≢ task_word Transitions) × (word ≢ task_word Siphons) × (word ≢ task_word Traps)

@@ -1,33 +1,69 @@
-ghost use Rattle.std.specs.Prelude.{◌≡◌, ◌⊎◌, IfOk, IfErr};
-ghost use Rattle.struct_core.specs.Texts.{fault_line};
-ghost use Rattle.struct_core.specs.Outcome.{Outcome};
+ghost use Rattle.std.specs.Prelude.{IfOk, IfErr};
+ghost use Rattle.struct_core.specs.declared.order.Order.{Order as Ordered};
+ghost use Rattle.struct_core.specs.Outcome.{Outcome, TaskOutcome};
+ghost use Rattle.struct_core.specs.Answers.{FailsWith};
 
-use crate::order::{Order, Task};
+use crate::order::{Budgets, Order, Task};
 use crate::refusal::Refusal;
-use crate::report::check_text;
-use net_values::Text;
-use pnml_decode::{DocFault, decode};
+use crate::closed::{siphons, traps};
+use crate::semiflows::{places, transitions};
+use net_class::class;
+use net_values::{Document, FlatNet, Text};
+use page_flatten::flatten;
+use pnml_decode::decode;
 use pnml_write::canonical;
+use report::{check_text, class_text};
 use std::alloc::Global;
 
 /// The text of an order for an input.
 pub(crate) fn answer(alloc: Global, order: Order, bytes: &[u8]) -> Result<Text, Refusal>
-    ensures text { IfOk result (λ text. Outcome order bytes.now 0 text) }
-    ensures refused { IfErr result (λ refusal. refusal ≡ Refusal.NotPlain → Outcome order bytes.now 3 (fault_line 3)) }
-    ensures only { IfErr result (λ refusal. (refusal ≡ Refusal.NotPlain) ⊎ (refusal ≡ Refusal.NoMemory)) }
+    ensures text { IfOk result (Outcome order bytes.now 0) }
+    ensures refused { IfErr result (FailsWith (Outcome order bytes.now)) }
 {
-    let Order::Run(task, _) = order;
+    match order {
+        Order::Run(task, budgets) => answer_task(alloc, task, budgets, bytes),
+    }
+}
+
+/// The text of a task for an input.
+fn answer_task(
+    alloc: Global,
+    task: Task,
+    budgets: Budgets,
+    bytes: &[u8],
+) -> Result<Text, Refusal>
+    ensures text { IfOk result (Outcome (Ordered.Run task budgets) bytes.now 0) }
+    ensures refused { IfErr result (FailsWith (Outcome (Ordered.Run task budgets) bytes.now)) }
+{
     let document = match decode(alloc, bytes) {
         Ok(document) => document,
-        Err(DocFault::NotPlain) => return Err(Refusal::NotPlain),
-        Err(DocFault::NoMemory) => return Err(Refusal::NoMemory),
+        Err(fault) => return Err(Refusal::Document(fault)),
     };
-    let text = match task {
-        Task::Check => check_text(alloc, &document),
-        Task::Canon => canonical(alloc, &document),
+    let net = match flatten(alloc, &document) {
+        Ok(net) => net,
+        Err(fault) => return Err(Refusal::Rule(fault)),
     };
-    match text {
-        Ok(text) => Ok(text),
-        Err(_) => Err(Refusal::NoMemory),
+    text_of(alloc, task, budgets, &document, &net)
+}
+
+/// The text of a task for a document and its flat net.
+fn text_of(
+    alloc: Global,
+    task: Task,
+    budgets: Budgets,
+    document: &Document,
+    net: &FlatNet,
+) -> Result<Text, Refusal>
+    ensures text { IfOk result (TaskOutcome task budgets document.now net.now 0) }
+    ensures refused { IfErr result (FailsWith (TaskOutcome task budgets document.now net.now)) }
+{
+    match task {
+        Task::Check => Ok(check_text(alloc, document, net)?),
+        Task::Canon => Ok(canonical(alloc, document)?),
+        Task::Class => Ok(class_text(alloc, class(net))?),
+        Task::Places => places(alloc, net, budgets.rows),
+        Task::Transitions => transitions(alloc, net, budgets.rows),
+        Task::Siphons => siphons(alloc, net, budgets.sets),
+        Task::Traps => traps(alloc, net, budgets.sets),
     }
 }

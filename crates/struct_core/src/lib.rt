@@ -2,10 +2,12 @@
 #![tactic(auto)]
 
 mod answer;
+mod closed;
 mod order;
 mod refusal;
-mod report;
 mod running;
+mod semiflows;
+mod telling;
 mod words;
 
 pub use order::{Budgets, Order, Task};

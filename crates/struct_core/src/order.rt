@@ -5,6 +5,16 @@ pub enum Task {
     Check,
     /// The canonical text of the document.
     Canon,
+    /// The classes of nets to which the net belongs.
+    Class,
+    /// The minimal semiflows of places.
+    Places,
+    /// The minimal semiflows of transitions.
+    Transitions,
+    /// The minimal siphons.
+    Siphons,
+    /// The minimal traps.
+    Traps,
 }
 
 /// How much the enumerations may take.

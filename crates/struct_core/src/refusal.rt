@@ -1,27 +1,50 @@
 ghost use Rattle.std.specs.Prelude.{◌≡◌};
-ghost use Rattle.struct_core.specs.Texts.{fault_line};
-ghost use Rattle.struct_core.specs.Statuses.{status_of};
+ghost use Rattle.struct_core.specs.Refusals.{status_of, document_status, rule_status, excess_status};
 
-const USAGE: &[u8] = b"usage: pnmlstruct TASK [--rows N] [--sets N], or pnmlstruct sample N\n";
+use net_values::{NoMemory, Text};
+use page_flatten::FlatFault;
+use pnml_decode::DocFault;
 
 /// Why a run wrote no text, or not all of it.
-#[derive(Clone, Copy, Debug)]
+#[derive(Drop)]
 pub(crate) enum Refusal {
+    /// The words mean nothing.
     Usage,
-    NotPlain,
+    /// The input spells no document.
+    Document(DocFault),
+    /// The document breaks a rule.
+    Rule(FlatFault),
+    /// The net's list is out of reach.
+    Excess(Excess),
+    /// The input has more bytes than may be read.
     TooLong,
     ReadFault,
     WriteFault,
     NoMemory,
 }
 
+/// Why the semiflows, siphons or traps of a net aren't listed.
+#[derive(Drop)]
+pub(crate) enum Excess {
+    /// A sum at the column of this id exceeds 2^127 - 1.
+    WideSum(Text),
+    /// An entry of a combination at the column of this id exceeds 2^127 - 1.
+    WideRow(Text),
+    /// The budget, the id of the column that passes it, and its number of candidates.
+    RowBudget(u32, Text, u64),
+    /// More siphons or traps than this are grown.
+    SetLimit(u32),
+}
+
 /// The status of a refusal.
-pub(crate) fn status(refusal: Refusal) -> u8
-    ensures { result ≡ status_of refusal }
+pub(crate) fn status(refusal: &Refusal) -> u8
+    ensures { result ≡ status_of refusal.now }
 {
     match refusal {
         Refusal::Usage => 2,
-        Refusal::NotPlain => 3,
+        Refusal::Document(fault) => status_of_document(fault),
+        Refusal::Rule(fault) => status_of_rule(fault),
+        Refusal::Excess(excess) => status_of_excess(excess),
         Refusal::TooLong => 7,
         Refusal::ReadFault => 8,
         Refusal::WriteFault => 9,
@@ -29,17 +52,40 @@ pub(crate) fn status(refusal: Refusal) -> u8
     }
 }
 
-/// The line that tells a refusal.
-#[tactic(auto, unfolding(crate::specs::Texts::fault_line))]
-pub(crate) fn line(refusal: Refusal) -> &'static [u8]
-    ensures { result.now ≡ fault_line (status_of refusal) }
+fn status_of_document(fault: &DocFault) -> u8
+    ensures { result ≡ document_status fault.now }
 {
-    match refusal {
-        Refusal::Usage => USAGE,
-        Refusal::NotPlain => b"document refused: not plain\n",
-        Refusal::TooLong => b"input too long\n",
-        Refusal::ReadFault => b"read fault\n",
-        Refusal::WriteFault => b"write fault\n",
-        Refusal::NoMemory => b"out of memory\n",
+    match fault {
+        DocFault::NoMemory => 10,
+        _ => 3,
+    }
+}
+
+fn status_of_rule(fault: &FlatFault) -> u8
+    ensures { result ≡ rule_status fault.now }
+{
+    match fault {
+        FlatFault::NoMemory => 10,
+        _ => 3,
+    }
+}
+
+fn status_of_excess(excess: &Excess) -> u8
+    ensures { result ≡ excess_status excess.now }
+{
+    match excess {
+        Excess::WideSum(_) | Excess::WideRow(_) => 4,
+        Excess::RowBudget(..) => 5,
+        Excess::SetLimit(_) => 6,
+    }
+}
+
+impl From<NoMemory> for Refusal {
+    ghost use Rattle.struct_core.specs.declared.refusal.Refusal.{Refusal};
+
+    ghost from_gives = { λ _ refusal. refusal ≡ Refusal.NoMemory };
+
+    fn from(_error: NoMemory) -> Refusal {
+        Refusal::NoMemory
     }
 }

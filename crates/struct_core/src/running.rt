@@ -1,10 +1,11 @@
-ghost use Rattle.struct_core.specs.Run.{device, Ran, Tells};
-ghost use Rattle.struct_core.specs.Statuses.{status_after};
+ghost use Rattle.struct_core.specs.Run.{device, Ran, HasRun};
+ghost use Rattle.struct_core.specs.Refusals.{status_after, line_after};
 ghost use Rattle.struct_core.specs.Words.{Means};
 
 use crate::answer::answer;
 use crate::order::Order;
-use crate::refusal::{Refusal, line, status};
+use crate::refusal::{Refusal, status};
+use crate::telling::tell;
 use crate::words::{Words, read_words};
 use pnml_source::{ReadAllFault, Sink, Source, read_all, write_all};
 use std::alloc::Global;
@@ -22,7 +23,7 @@ fn work<S: Source, O: Sink>(
 ) -> Result<(), Refusal>
     requires { Means words.now order }
     ensures { Ran words.now (device (S.left source.old) (S.faults source.old)) (device (S.left source.new) (S.faults source.new))
-        (device (O.held out.old) (O.faults out.old)) (device (O.held out.new) (O.faults out.new)) (status_after result) }
+        (device (O.held out.old) (O.faults out.old)) (device (O.held out.new) (O.faults out.new)) (status_after result) (line_after result) }
 {
     let bytes = match read_all(alloc, source, MOST_BYTES) {
         Ok(bytes) => bytes,
@@ -48,7 +49,7 @@ fn attempt<S: Source, O: Sink>(
     out: &mut O,
 ) -> Result<(), Refusal>
     ensures { Ran words.now (device (S.left source.old) (S.faults source.old)) (device (S.left source.new) (S.faults source.new))
-        (device (O.held out.old) (O.faults out.old)) (device (O.held out.new) (O.faults out.new)) (status_after result) }
+        (device (O.held out.old) (O.faults out.old)) (device (O.held out.new) (O.faults out.new)) (status_after result) (line_after result) }
 {
     match read_words(words) {
         None => Err(Refusal::Usage),
@@ -65,15 +66,15 @@ pub fn run<S: Source, O: Sink, E: Sink>(
     out: &mut O,
     err: &mut E,
 ) -> u8
-    ensures ran { Ran words.now (device (S.left source.old) (S.faults source.old)) (device (S.left source.new) (S.faults source.new))
-        (device (O.held out.old) (O.faults out.old)) (device (O.held out.new) (O.faults out.new)) result }
-    ensures tells { Tells (device (E.held err.old) (E.faults err.old)) (device (E.held err.new) (E.faults err.new)) result }
+    ensures { HasRun words.now (device (S.left source.old) (S.faults source.old)) (device (S.left source.new) (S.faults source.new))
+        (device (O.held out.old) (O.faults out.old)) (device (O.held out.new) (O.faults out.new))
+        (device (E.held err.old) (E.faults err.old)) (device (E.held err.new) (E.faults err.new)) result }
 {
     match attempt(alloc, words, source, out) {
         Ok(()) => 0,
         Err(refusal) => {
-            let _ = write_all(err, line(refusal));
-            status(refusal)
+            let _ = tell(err, &refusal);
+            status(&refusal)
         }
     }
 }

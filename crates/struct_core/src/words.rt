@@ -1,7 +1,7 @@
 ghost use Rattle.std.specs.Prelude.{◌≡◌, ◌∷◌, [], ℕ, List as Listed, IfSome, IfNone};
 ghost use Rattle.struct_core.specs.declared.order.Order.{Order as Meaning};
 ghost use Rattle.struct_core.specs.declared.order.Task.{Task as Meant};
-ghost use Rattle.struct_core.specs.Words.{Means, task_word};
+ghost use Rattle.struct_core.specs.Words.{Means, task_word, IsNoEnumeration};
 
 use crate::order::{Budgets, Order, Task};
 use net_values::{List, Text};
@@ -12,6 +12,16 @@ pub type Words = List<Text>;
 const CHECK: &[u8] = b"check";
 
 const CANON: &[u8] = b"canon";
+
+const CLASS: &[u8] = b"class";
+
+const PLACES: &[u8] = b"places";
+
+const TRANSITIONS: &[u8] = b"transitions";
+
+const SIPHONS: &[u8] = b"siphons";
+
+const TRAPS: &[u8] = b"traps";
 
 const DEFAULT_BUDGETS: Budgets = Budgets {
     rows: 20_000,
@@ -39,6 +49,26 @@ fn task_of(word: &[u8]) -> Option<Task>
         Some(Task::Check)
     } else if word == CANON {
         Some(Task::Canon)
+    } else if word == CLASS {
+        Some(Task::Class)
+    } else {
+        enumeration_of(word)
+    }
+}
+
+/// The task that lists what the net has, by its word.
+fn enumeration_of(word: &[u8]) -> Option<Task>
+    ensures found { IfSome result (λ task. word.now ≡ task_word task) }
+    ensures none { IfNone result (IsNoEnumeration word.now) }
+{
+    if word == PLACES {
+        Some(Task::Places)
+    } else if word == TRANSITIONS {
+        Some(Task::Transitions)
+    } else if word == SIPHONS {
+        Some(Task::Siphons)
+    } else if word == TRAPS {
+        Some(Task::Traps)
     } else {
         None
     }

@@ -19,7 +19,7 @@ pub returns-in-Err : goal.returns-in-Err
 returns-in-Err g c =
     not_answered _ c.args.order _ _ _ c.as_slice.result.now c.in-Err.refusal c.requires
     (reads_as _ _ _ _ c.as_slice.ensures.value c.in-Ok.ensures.whole c.in-Ok.ensures.short c.in-Ok.ensures.kept)
-    c.in-Err.ensures.refused c.in-Err.ensures.only
+    c.in-Err.ensures.refused
 
 pub returns-in-Ok-write_all : goal.returns-in-Ok-write_all
 returns-in-Ok-write_all g c =

@@ -1,0 +1,19 @@
+-- Why there is no text: for want of memory, or by an outcome that the refusal tells.
+use Rattle.std.specs.Prelude.{◌≡◌, ◌⊎◌, ℕ, ◌≤◌, List}
+use Rattle.struct_core.specs.declared.refusal.Refusal.{Refusal}
+use Rattle.struct_core.specs.Lines.{memory_line}
+use Rattle.struct_core.specs.Refusals.{status_of, line_of}
+
+-- want of memory
+pub record IsMemory (refusal : Refusal) : Type 0 where
+  pub status : status_of refusal ≡ 10
+  pub line : line_of refusal ≡ memory_line
+
+-- an outcome with a status of the middle, and with the line of the refusal
+pub record IsTold (Tells : ℕ → List ℕ → Type 0) (refusal : Refusal) : Type 0 where
+  pub low : 3 ≤ status_of refusal
+  pub high : status_of refusal ≤ 6
+  pub outcome : Tells (status_of refusal) (line_of refusal)
+
+abbrev pub FailsWith : (ℕ → List ℕ → Type 0) → Refusal → Type 0
+FailsWith Tells refusal = IsMemory refusal ⊎ IsTold Tells refusal
