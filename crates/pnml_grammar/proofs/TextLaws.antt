@@ -13,20 +13,11 @@ use Rattle.net_values.specs.Characters.{IsLegalCharacter, IsLegalText}
 use Rattle.pnml_grammar.specs.Characters.{Each, is_space}
 use Rattle.pnml_grammar.specs.Resolving.{is_legal_character, text_of}
 use Rattle.pnml_grammar.specs.Reading.{is_legal}
+use Rattle.pnml_grammar.proofs.EachLaws.{each_found, each_tested}
 use Rattle.pnml_grammar.proofs.RunLaws.{chosen, some_is}
 use Rattle.pnml_grammar.proofs.ReferenceLaws.{legal_is, legal_found}
 
-legal_all : (cs : List ℕ) → AllByRecursion IsLegalCharacter cs → list_all is_legal_character cs ≡ true
-legal_all [] each = refl
-legal_all (c ∷ cs) each = and_from (is_legal_character c) (list_all is_legal_character cs) (legal_is c each.0) (legal_all cs each.1)
-
-all_legal : (cs : List ℕ) → list_all is_legal_character cs ≡ true → AllByRecursion IsLegalCharacter cs
-all_legal [] e = tt
-all_legal (c ∷ cs) e =
-    let p = and_parts (is_legal_character c) (list_all is_legal_character cs) e in
-    (legal_found c p.0, all_legal cs p.1)
-
-legal_scalar : (c : ℕ) → IsLegalCharacter c → scalar c ≡ true
+pub legal_scalar : (c : ℕ) → IsLegalCharacter c → scalar c ≡ true
 legal_scalar c h = grind (arith, nat_tests)
 
 legal_scalars : (cs : List ℕ) → AllByRecursion IsLegalCharacter cs → all_scalars cs ≡ true
@@ -41,13 +32,13 @@ unfolding is_legal
 is_legal_is bytes h =
     let cs : chars bytes ≡ h.0 = ap chars (sym h.2) ∙ chars-encodes h.0 (legal_scalars h.0 h.1) in
     and_from (is_utf8 bytes) (list_all is_legal_character (chars bytes)) (is_utf8-from_IsUtf8 bytes (legal_utf8 bytes h))
-    (ap (list_all is_legal_character) cs ∙ legal_all h.0 h.1)
+    (ap (list_all is_legal_character) cs ∙ each_tested IsLegalCharacter is_legal_character legal_is h.0 h.1)
 
 pub is_legal_found : (bytes : List ℕ) → is_legal bytes ≡ true → IsLegalText bytes
 unfolding is_legal
 is_legal_found bytes e =
     let p = and_parts (is_utf8 bytes) (list_all is_legal_character (chars bytes)) e in
-    (chars bytes, all_legal (chars bytes) p.1, encodes-chars bytes (IsUtf8-from_is_utf8 bytes p.0))
+    (chars bytes, each_found IsLegalCharacter is_legal_character legal_found (chars bytes) p.1, encodes-chars bytes (IsUtf8-from_is_utf8 bytes p.0))
 
 pub text_again : (bytes : List ℕ) → IsUtf8 bytes → text_of bytes ≡ Some bytes
 unfolding text_of

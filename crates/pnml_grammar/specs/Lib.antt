@@ -1,4 +1,4 @@
--- What tokens are and how they are spelled, and functions on lists that find them.
+-- What tokens are and how they are spelled, what documents they spell, and functions on lists that find both.
 pub mod Characters
 pub mod Names
 pub mod References
@@ -12,4 +12,14 @@ pub mod Resolving
 pub mod Reading
 pub mod Canon
 pub mod Valued
+pub mod ValuedTests
 pub mod Plain
+pub mod Elements
+pub mod Numerals
+pub mod Trees
+pub mod Contents
+pub mod Counts
+pub mod Documents
+pub mod Machine
+pub mod FirstFault
+pub mod LegalTexts

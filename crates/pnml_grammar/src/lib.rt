@@ -1,9 +1,22 @@
-//! The tokens of PNML's text, XML 1.0 in a narrow profile, and what it means that one stands at an
-//! offset: a relation on whole spellings, by which at most one token stands there.
+//! The grammar of the documents that are read: the tokens of PNML's text, XML 1.0 in a narrow profile, what
+//! it means that one stands at an offset, what it means that tokens spell a document, and the one text that
+//! is written for it. At most one token stands at an offset.
 #![tactic(auto)]
 
+mod element;
 mod law;
+mod legal;
+mod reason;
 mod token;
+mod valued;
+mod walk;
 
+pub use element::{AttributeKind, Context, ElementKind};
 pub use law::one_token;
+pub use legal::{is_legal_character, is_legal_text};
+pub use reason::{Counted, Reason};
 pub use token::{Attribute, Attributes, Token};
+pub use valued::is_valued;
+
+#[cfg(test)]
+mod tests;

@@ -1,9 +1,7 @@
-ghost use Rattle.std.specs.Prelude.{◌≡◌, chars};
-ghost use Rattle.std.specs.List.{list_all};
-ghost use Rattle.pnml_grammar.specs.Resolving.{is_legal_character};
+ghost use Rattle.std.specs.Prelude.{◌≡◌};
 ghost use Rattle.pnml_grammar.specs.Reading.{is_legal, is_spelling};
 
-use crate::reference::is_legal as is_legal_character;
+use pnml_grammar::is_legal_text;
 
 /// The most bytes that a token's spelling has.
 pub(crate) const SPELLING_LIMIT: usize = 1_048_576;
@@ -20,13 +18,7 @@ fn is_legal(bytes: &[u8]) -> bool
     ensures { result ≡ is_legal bytes.now }
 {
     match std::str::from_utf8(bytes) {
-        Ok(text) => are_legal(text),
+        Ok(text) => is_legal_text(text),
         Err(_) => false,
     }
-}
-
-fn are_legal(text: &str) -> bool
-    ensures { result ≡ list_all is_legal_character (chars text.now) }
-{
-    text.chars().all(|character| is_legal_character(character))
 }

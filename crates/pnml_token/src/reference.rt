@@ -1,6 +1,8 @@
 ghost use Rattle.std.specs.Prelude.{◌≡◌, ◌⊎◌, []};
 ghost use Rattle.std.specs.Char.{digit_value};
-ghost use Rattle.pnml_grammar.specs.Resolving.{is_legal_character, character_numbered, number_behind, character_named, character_behind_number_sign, referenced};
+ghost use Rattle.pnml_grammar.specs.Resolving.{character_numbered, number_behind, character_named, character_behind_number_sign, referenced};
+
+use pnml_grammar::is_legal_character;
 
 const GREATEST_CHARACTER: u32 = 0x10_FFFF;
 
@@ -78,7 +80,7 @@ fn character(number: u32) -> Option<char>
     ensures { result ≡ number_behind 10 number [] }
 {
     match char::from_u32(number) {
-        Some(character) if is_legal(character) => Some(character),
+        Some(character) if is_legal_character(character) => Some(character),
         _ => None,
     }
 }
@@ -92,11 +94,4 @@ fn digit_value(digit: u8) -> u32
         b'a'..=b'z' => (digit - b'a') as u32 + 10,
         _ => 36,
     }
-}
-
-/// A legal character (XML 1.0, production 2, Char).
-pub(crate) fn is_legal(character: char) -> bool
-    ensures { result ≡ is_legal_character character }
-{
-    matches!(character, '\t' | '\n' | '\r' | ' '..='\u{D7FF}' | '\u{E000}'..='\u{FFFD}' | '\u{10000}'..='\u{10FFFF}')
 }

@@ -1,0 +1,206 @@
+-- The walk over the items tests at each item what pages, depth and counts ask for: what is left can be walked
+-- behind an item just where it and the item can be walked before it.
+use Rattle.std.proofs.Common.{◌≡◌, ℕ, ◌+◌, ◌-◌, ◌≤◌, Bool, true, false, cond, List, [], ◌∷◌, Option, Some, None, refl, subst, arith, inl, inr}
+use Rattle.std.specs.Prelude.{◌==◌, ◌&&◌, nat_le, count_by}
+use Rattle.std.specs.List.{AllByRecursion}
+use Rattle.std.proofs.lemmas.Bool.{cases_Bool, and_parts, leb-true, ltb-true, le-leb, lt-ltb, eqb-true, eq-eqb}
+use Rattle.net_values.specs.declared.document.Item.{Item}
+use Rattle.net_values.specs.declared.document.Item.TheVariants.{Page, PageEnd, Place, Transition, RefPlace, RefTransition, Arc}
+use Rattle.net_values.specs.Items.{is_page, is_place, is_transition, is_arc, is_reference}
+use Rattle.pnml_grammar.specs.declared.walk.Walk.{Walk}
+use Rattle.pnml_grammar.specs.Valued.{PagesMatch, name_height, item_height, IsShallow}
+use Rattle.pnml_grammar.specs.ValuedTests.{has_values_in_range, behind, may_count, is_low, past, walks}
+use Rattle.pnml_grammar.proofs.EachLaws.{count_by_append}
+
+-- ---- counts
+
+-- what was passed is within the limits
+pub record IsFit (walk : Walk) : Type 0 where
+  pub opened : walk.opened ≤ 126
+  pub places : walk.places ≤ 2048
+  pub transitions : walk.transitions ≤ 2048
+  pub arcs : walk.arcs ≤ 65536
+  pub references : walk.references ≤ 4096
+  pub pages : walk.pages ≤ 1024
+
+-- and so is what was passed with these items
+pub record AreWithin (walk : Walk) (items : List Item) : Type 0 where
+  pub places : walk.places + count_by is_place items ≤ 2048
+  pub transitions : walk.transitions + count_by is_transition items ≤ 2048
+  pub arcs : walk.arcs + count_by is_arc items ≤ 65536
+  pub references : walk.references + count_by is_reference items ≤ 4096
+  pub pages : walk.pages + count_by is_page items ≤ 1024
+
+record CountsItem (walk : Walk) (item : Item) : Type 0 where
+  places : (behind walk item).places ≡ walk.places + count_by is_place (item ∷ [])
+  transitions : (behind walk item).transitions ≡ walk.transitions + count_by is_transition (item ∷ [])
+  arcs : (behind walk item).arcs ≡ walk.arcs + count_by is_arc (item ∷ [])
+  references : (behind walk item).references ≡ walk.references + count_by is_reference (item ∷ [])
+  pages : (behind walk item).pages ≡ walk.pages + count_by is_page (item ∷ [])
+
+counts_item : (walk : Walk) (item : Item) → CountsItem walk item
+counts_item walk (Page page) = omega arith
+counts_item walk PageEnd = omega arith
+counts_item walk (Place place) = omega arith
+counts_item walk (Transition transition) = omega arith
+counts_item walk (RefPlace node) = omega arith
+counts_item walk (RefTransition node) = omega arith
+counts_item walk (Arc arc) = omega arith
+
+record CountsFirst (item : Item) (items : List Item) : Type 0 where
+  places : count_by is_place (item ∷ items) ≡ count_by is_place (item ∷ []) + count_by is_place items
+  transitions : count_by is_transition (item ∷ items) ≡ count_by is_transition (item ∷ []) + count_by is_transition items
+  arcs : count_by is_arc (item ∷ items) ≡ count_by is_arc (item ∷ []) + count_by is_arc items
+  references : count_by is_reference (item ∷ items) ≡ count_by is_reference (item ∷ []) + count_by is_reference items
+  pages : count_by is_page (item ∷ items) ≡ count_by is_page (item ∷ []) + count_by is_page items
+
+counts_first : (item : Item) (items : List Item) → CountsFirst item items
+counts_first item items = record {
+  places = count_by_append is_place (item ∷ []) items;
+  transitions = count_by_append is_transition (item ∷ []) items;
+  arcs = count_by_append is_arc (item ∷ []) items;
+  references = count_by_append is_reference (item ∷ []) items;
+  pages = count_by_append is_page (item ∷ []) items;
+}
+
+within_before : (walk : Walk) (item : Item) (items : List Item) → AreWithin (behind walk item) items → AreWithin walk (item ∷ items)
+within_before walk item items within =
+    let one = counts_item walk item in
+    let all = counts_first item items in
+    record {
+      places = omega (arith, within.places, one.places, all.places);
+      transitions = omega (arith, within.transitions, one.transitions, all.transitions);
+      arcs = omega (arith, within.arcs, one.arcs, all.arcs);
+      references = omega (arith, within.references, one.references, all.references);
+      pages = omega (arith, within.pages, one.pages, all.pages);
+    }
+
+within_behind : (walk : Walk) (item : Item) (items : List Item) → AreWithin walk (item ∷ items) → AreWithin (behind walk item) items
+within_behind walk item items within =
+    let one = counts_item walk item in
+    let all = counts_first item items in
+    record {
+      places = omega (arith, within.places, one.places, all.places);
+      transitions = omega (arith, within.transitions, one.transitions, all.transitions);
+      arcs = omega (arith, within.arcs, one.arcs, all.arcs);
+      references = omega (arith, within.references, one.references, all.references);
+      pages = omega (arith, within.pages, one.pages, all.pages);
+    }
+
+-- ---- pages
+
+pages_before : (walk : Walk) (item : Item) (items : List Item) → may_count walk item ≡ true → PagesMatch (behind walk item).opened items → PagesMatch walk.opened (item ∷ items)
+pages_before walk PageEnd items e match = (ltb-true 0 walk.opened e, match)
+pages_before walk item items e match = match
+
+pages_behind : (walk : Walk) (item : Item) (items : List Item) → PagesMatch walk.opened (item ∷ items) → PagesMatch (behind walk item).opened items
+pages_behind walk PageEnd items match = match.1
+pages_behind walk item items match = match
+
+-- ---- depth
+
+name_low : (name : Option (List ℕ)) → name_height name ≤ 2
+name_low None = omega arith
+name_low (Some name) = omega arith
+
+label_low : (n m name : ℕ) → name ≤ 2 → cond (n == m) (1 + name) 3 ≤ 3
+label_low n m name low = elim (cases_Bool (n == m)) [ inl same ↦ rw same (omega arith) | inr other ↦ rw other (omega arith) ]
+
+height_low : (item : Item) → item_height item ≤ 3
+height_low (Page page) = omega (arith, name_low page.name)
+height_low PageEnd = omega arith
+height_low (Place place) = label_low place.initial 0 (name_height place.name) (name_low place.name)
+height_low (Transition transition) = omega (arith, name_low transition.name)
+height_low (RefPlace node) = omega (arith, name_low node.name)
+height_low (RefTransition node) = omega (arith, name_low node.name)
+height_low (Arc arc) = label_low arc.weight 1 (name_height arc.name) (name_low arc.name)
+
+depth_is : (opened height : ℕ) → height ≤ 3 → nat_le opened (126 - height) ≡ true → opened + 2 + height ≤ 128
+depth_is opened height low e = omega (arith, leb-true opened (126 - height) e)
+
+depth_tested : (opened height : ℕ) → opened + 2 + height ≤ 128 → nat_le opened (126 - height) ≡ true
+depth_tested opened height le = le-leb opened (126 - height) (omega arith)
+
+shallow_before : (walk : Walk) (item : Item) (items : List Item) → is_low walk item ≡ true → may_count walk item ≡ true → IsShallow ((behind walk item).opened + 2) items
+    → IsShallow (walk.opened + 2) (item ∷ items)
+shallow_before walk (Page page) items low e shallow =
+    let same : walk.opened + 1 + 2 ≡ walk.opened + 2 + 1 = omega arith in
+    (depth_is walk.opened (item_height (Page page)) (height_low (Page page)) low, subst (λ n. IsShallow n items) same shallow)
+shallow_before walk PageEnd items low e shallow =
+    let some = ltb-true 0 walk.opened e in
+    let same : walk.opened - 1 + 2 ≡ walk.opened + 2 - 1 = omega arith in
+    subst (λ n. IsShallow n items) same shallow
+shallow_before walk item items low e shallow = (depth_is walk.opened (item_height item) (height_low item) low, shallow)
+
+shallow_behind : (walk : Walk) (item : Item) (items : List Item) → may_count walk item ≡ true → IsShallow (walk.opened + 2) (item ∷ items) → IsShallow ((behind walk item).opened + 2) items
+shallow_behind walk (Page page) items e shallow =
+    let same : walk.opened + 2 + 1 ≡ walk.opened + 1 + 2 = omega arith in
+    subst (λ n. IsShallow n items) same shallow.1
+shallow_behind walk PageEnd items e shallow =
+    let some = ltb-true 0 walk.opened e in
+    let same : walk.opened + 2 - 1 ≡ walk.opened - 1 + 2 = omega arith in
+    subst (λ n. IsShallow n items) same shallow
+shallow_behind walk item items e shallow = shallow.1
+
+-- ---- one item
+
+low_is : (walk : Walk) (item : Item) (items : List Item) → IsFit walk → IsShallow (walk.opened + 2) (item ∷ items) → is_low walk item ≡ true
+low_is walk PageEnd items fit shallow = le-leb walk.opened 126 fit.opened
+low_is walk item items fit shallow = depth_tested walk.opened (item_height item) shallow.0
+
+count_is : (walk : Walk) (item : Item) (items : List Item) → AreWithin walk (item ∷ items) → PagesMatch walk.opened (item ∷ items) → may_count walk item ≡ true
+count_is walk (Page page) items within match = lt-ltb walk.pages 1024 (omega (arith, within.pages, (counts_first (Page page) items).pages))
+count_is walk PageEnd items within match = lt-ltb 0 walk.opened match.0
+count_is walk (Place place) items within match = lt-ltb walk.places 2048 (omega (arith, within.places, (counts_first (Place place) items).places))
+count_is walk (Transition transition) items within match =
+    lt-ltb walk.transitions 2048 (omega (arith, within.transitions, (counts_first (Transition transition) items).transitions))
+count_is walk (RefPlace node) items within match = lt-ltb walk.references 4096 (omega (arith, within.references, (counts_first (RefPlace node) items).references))
+count_is walk (RefTransition node) items within match = lt-ltb walk.references 4096 (omega (arith, within.references, (counts_first (RefTransition node) items).references))
+count_is walk (Arc arc) items within match = lt-ltb walk.arcs 65536 (omega (arith, within.arcs, (counts_first (Arc arc) items).arcs))
+
+fit_behind : (walk : Walk) (item : Item) → IsFit walk → is_low walk item ≡ true → may_count walk item ≡ true → IsFit (behind walk item)
+fit_behind walk (Page page) fit low e = omega (arith, fit, ltb-true walk.pages 1024 e, leb-true walk.opened (126 - item_height (Page page)) low)
+fit_behind walk PageEnd fit low e = omega (arith, fit)
+fit_behind walk (Place place) fit low e = omega (arith, fit, ltb-true walk.places 2048 e)
+fit_behind walk (Transition transition) fit low e = omega (arith, fit, ltb-true walk.transitions 2048 e)
+fit_behind walk (RefPlace node) fit low e = omega (arith, fit, ltb-true walk.references 4096 e)
+fit_behind walk (RefTransition node) fit low e = omega (arith, fit, ltb-true walk.references 4096 e)
+fit_behind walk (Arc arc) fit low e = omega (arith, fit, ltb-true walk.arcs 65536 e)
+
+-- ---- all items
+
+pub record Walks (walk : Walk) (items : List Item) : Type 0 where
+  pub pages : PagesMatch walk.opened items
+  pub shallow : IsShallow (walk.opened + 2) items
+  pub within : AreWithin walk items
+
+past_found : (low count : Bool) (next : Walk) (items : List Item) → walks (cond (low && count) (Some next) None) items ≡ true → (low ≡ true) × (count ≡ true) × (walks (Some next) items ≡ true)
+past_found true true next items e = (refl, refl, e)
+past_found true false next items e = absurd cc
+past_found false count next items e = absurd cc
+
+pub walks_found : (walk : Walk) (items : List Item) → IsFit walk → walks (Some walk) items ≡ true → AllByRecursion (λ item. has_values_in_range item ≡ true) items × Walks walk items
+walks_found walk [] fit e = (tt, record { pages = eqb-true walk.opened 0 e; shallow = tt; within = omega (arith, fit) })
+walks_found walk (item ∷ items) fit e =
+    let both = and_parts (has_values_in_range item) (walks (past walk item) items) e in
+    let p = past_found (is_low walk item) (may_count walk item) (behind walk item) items both.1 in
+    let rest = walks_found (behind walk item) items (fit_behind walk item fit p.0 p.1) p.2 in (
+      (both.0, rest.0),
+      record {
+        pages = pages_before walk item items p.1 rest.1.pages;
+        shallow = shallow_before walk item items p.0 p.1 rest.1.shallow;
+        within = within_before walk item items rest.1.within;
+      },
+    )
+
+pub walks_is : (walk : Walk) (items : List Item) → IsFit walk → AllByRecursion (λ item. has_values_in_range item ≡ true) items → Walks walk items → walks (Some walk) items ≡ true
+walks_is walk [] fit each is = eq-eqb walk.opened 0 is.pages
+walks_is walk (item ∷ items) fit each is =
+    let count = count_is walk item items is.within is.pages in
+    let low = low_is walk item items fit is.shallow in
+    let rest : Walks (behind walk item) items = record {
+      pages = pages_behind walk item items is.pages;
+      shallow = shallow_behind walk item items count is.shallow;
+      within = within_behind walk item items is.within;
+    } in
+    rw (each.0, low, count) (walks_is (behind walk item) items (fit_behind walk item fit low count) each.1 rest)

@@ -1,0 +1,84 @@
+-- `Valued` as a test, and as a walk over the items that counts what was passed.
+use Rattle.std.specs.Prelude.{ℕ, ◌+◌, ◌-◌, ◌^◌, ◌==◌, ◌&&◌, not, nat_le, nat_lt, Bool, true, false, if◌then◌else◌, List, [], ◌∷◌, Option, Some, None, length, chars}
+use Rattle.std.specs.List.{list_all}
+use Rattle.std.specs.Str.{is_utf8}
+use Rattle.net_values.specs.declared.document.Document.{Document}
+use Rattle.net_values.specs.declared.document.Item.{Item}
+use Rattle.net_values.specs.declared.document.Item.TheVariants.{Page, PageEnd, Place, Transition, RefPlace, RefTransition, Arc}
+use Rattle.pnml_grammar.specs.declared.walk.Walk.{Walk}
+use Rattle.pnml_grammar.specs.Resolving.{is_legal_character}
+use Rattle.pnml_grammar.specs.Valued.{item_height}
+
+-- ---- values
+
+-- text of characters that pass the test
+abbrev pub is_text_of : (ℕ → Bool) → List ℕ → Bool
+is_text_of test bytes = is_utf8 bytes && list_all test (chars bytes)
+
+abbrev pub is_id_character : ℕ → Bool
+is_id_character c = is_legal_character c && nat_lt 0x20 c && not (c == 0x7F)
+
+unfoldable pub is_valued_id : List ℕ → Bool
+is_valued_id bytes = nat_le 1 (length bytes) && nat_le (length bytes) 4096 && is_text_of is_id_character bytes
+
+unfoldable pub is_valued_name : List ℕ → Bool
+is_valued_name bytes = nat_le (length bytes) 65536 && is_text_of is_legal_character bytes
+
+abbrev pub is_valued_name_if_any : Option (List ℕ) → Bool
+is_valued_name_if_any None = true
+is_valued_name_if_any (Some name) = is_valued_name name
+
+abbrev pub is_weight : ℕ → Bool
+is_weight weight = nat_le 1 weight && nat_lt weight (2 ^ 64)
+
+abbrev pub has_values_in_range : Item → Bool
+has_values_in_range (Page page) = is_valued_id page.id && is_valued_name_if_any page.name
+has_values_in_range PageEnd = true
+has_values_in_range (Place place) = is_valued_id place.id && is_valued_name_if_any place.name && nat_lt place.initial (2 ^ 64)
+has_values_in_range (Transition transition) = is_valued_id transition.id && is_valued_name_if_any transition.name
+has_values_in_range (RefPlace node) = is_valued_id node.id && is_valued_name_if_any node.name && is_valued_id node.target
+has_values_in_range (RefTransition node) = is_valued_id node.id && is_valued_name_if_any node.name && is_valued_id node.target
+has_values_in_range (Arc arc) =
+    is_valued_id arc.id && is_valued_name_if_any arc.name && is_valued_id arc.source && is_valued_id arc.target && is_weight arc.weight
+
+-- ---- the walk
+
+abbrev pub start : Walk
+start = record { opened = 0; places = 0; transitions = 0; arcs = 0; references = 0; pages = 0 }
+
+-- behind one item more
+abbrev pub behind : Walk → Item → Walk
+behind walk (Page page) = record walk { opened = walk.opened + 1; pages = walk.pages + 1 }
+behind walk PageEnd = record walk { opened = walk.opened - 1 }
+behind walk (Place place) = record walk { places = walk.places + 1 }
+behind walk (Transition transition) = record walk { transitions = walk.transitions + 1 }
+behind walk (RefPlace node) = record walk { references = walk.references + 1 }
+behind walk (RefTransition node) = record walk { references = walk.references + 1 }
+behind walk (Arc arc) = record walk { arcs = walk.arcs + 1 }
+
+-- one item more of a kind is within the limits, and an end of a page ends one that is open
+abbrev pub may_count : Walk → Item → Bool
+may_count walk (Page page) = nat_lt walk.pages 1024
+may_count walk PageEnd = nat_lt 0 walk.opened
+may_count walk (Place place) = nat_lt walk.places 2048
+may_count walk (Transition transition) = nat_lt walk.transitions 2048
+may_count walk (RefPlace node) = nat_lt walk.references 4096
+may_count walk (RefTransition node) = nat_lt walk.references 4096
+may_count walk (Arc arc) = nat_lt walk.arcs 65536
+
+-- no more than 128 elements are open, of which the root and the net are two
+abbrev pub is_low : Walk → Item → Bool
+is_low walk item = nat_le walk.opened (126 - item_height item)
+
+abbrev pub past : Walk → Item → Option Walk
+past walk item = if is_low walk item && may_count walk item then Some (behind walk item) else None
+
+-- the items can be passed, and no page is open behind them
+abbrev pub walks : Option Walk → List Item → Bool
+walks None items = false
+walks (Some walk) [] = walk.opened == 0
+walks (Some walk) (item ∷ items) = has_values_in_range item && walks (past walk item) items
+
+unfoldable pub is_valued : Document → Bool
+is_valued document =
+    is_valued_id document.net.id && is_valued_name_if_any document.net.name && walks (Some start) document.net.items

@@ -1,0 +1,112 @@
+ghost use Rattle.std.specs.Prelude.{◌≡◌, ◌≤◌};
+ghost use Rattle.pnml_grammar.specs.Valued.{item_height, name_height};
+ghost use Rattle.pnml_grammar.specs.ValuedTests.{start, past};
+
+use net_values::{Item, Text};
+
+/// How many elements may be open in a net: 128 without the root and the net.
+const DEPTH_LIMIT: usize = 126;
+
+const PAGE_LIMIT: usize = 1024;
+
+const PLACE_LIMIT: usize = 2048;
+
+const TRANSITION_LIMIT: usize = 2048;
+
+const REFERENCE_LIMIT: usize = 4096;
+
+const ARC_LIMIT: usize = 65_536;
+
+/// What was passed before an item: how many pages are open there, and how many items of each kind there are.
+#[derive(Clone, Copy)]
+pub(crate) struct Walk {
+    pub(crate) opened: usize,
+    pub(crate) places: usize,
+    pub(crate) transitions: usize,
+    pub(crate) arcs: usize,
+    pub(crate) references: usize,
+    pub(crate) pages: usize,
+}
+
+impl Walk {
+    /// Before the first item of a net.
+    pub(crate) fn new() -> Walk
+        ensures { result ≡ start }
+    {
+        Walk {
+            opened: 0,
+            places: 0,
+            transitions: 0,
+            arcs: 0,
+            references: 0,
+            pages: 0,
+        }
+    }
+
+    /// Behind one item more. There is no way past the end of a page where none is open, nor past an item that
+    /// is one too many or too deep.
+    pub(crate) fn past(self, item: &Item) -> Option<Walk>
+        ensures { result ≡ past self item.now }
+    {
+        if self.opened > DEPTH_LIMIT - height(item) {
+            return None;
+        }
+        match item {
+            Item::Page(_) if self.pages < PAGE_LIMIT => Some(Walk {
+                opened: self.opened + 1,
+                pages: self.pages + 1,
+                ..self
+            }),
+            Item::PageEnd if self.opened > 0 => Some(Walk {
+                opened: self.opened - 1,
+                ..self
+            }),
+            Item::Place(_) if self.places < PLACE_LIMIT => Some(Walk {
+                places: self.places + 1,
+                ..self
+            }),
+            Item::Transition(_) if self.transitions < TRANSITION_LIMIT => Some(Walk {
+                transitions: self.transitions + 1,
+                ..self
+            }),
+            Item::RefPlace(_) | Item::RefTransition(_) if self.references < REFERENCE_LIMIT => Some(
+                Walk {
+                    references: self.references + 1,
+                    ..self
+                },
+            ),
+            Item::Arc(_) if self.arcs < ARC_LIMIT => Some(Walk {
+                arcs: self.arcs + 1,
+                ..self
+            }),
+            _ => None,
+        }
+    }
+}
+
+/// How many elements the item has open in the canonical text, at most.
+fn height(item: &Item) -> usize
+    ensures value { result ≡ item_height item.now }
+    ensures bound { result ≤ 3 }
+{
+    match item {
+        Item::Page(page) => 1 + name_height(&page.name),
+        Item::PageEnd => 0,
+        Item::Place(place) if place.initial != 0 => 3,
+        Item::Place(place) => 1 + name_height(&place.name),
+        Item::Transition(transition) => 1 + name_height(&transition.name),
+        Item::RefPlace(node) | Item::RefTransition(node) => 1 + name_height(&node.name),
+        Item::Arc(arc) if arc.weight != 1 => 3,
+        Item::Arc(arc) => 1 + name_height(&arc.name),
+    }
+}
+
+fn name_height(name: &Option<Text>) -> usize
+    ensures value { result ≡ name_height name.now }
+    ensures bound { result ≤ 2 }
+{
+    match name {
+        Some(_) => 2,
+        None => 0,
+    }
+}
