@@ -1,0 +1,7 @@
+-- The elements of a document, the five rules that it must keep, and the flat net that it stands for.
+pub mod Elements
+pub mod Chains
+pub mod Rules
+pub mod Flat
+pub mod Tables
+pub mod Joints
