@@ -98,7 +98,9 @@ fn has_within(kept: &[Vector], masks: &[u128], row: &Vector, mask: u128) -> bool
 fn drop_wider(rows: &mut Rows, masks: &mut Vec<u128>, before: usize)
     requires size { length rows.old ≡ before + 1 }
     requires masks { masks.old.items ≡ masks_of rows.old }
-    ensures rows { rows.new ≡ filter (λ other. not (within_test (row_at rows.old before) other)) (take before rows.old) ++ row_at rows.old before ∷ [] }
+    ensures rows { rows.new ≡
+        filter (λ other. not (within_test (row_at rows.old before) other)) (take before rows.old) ++
+        row_at rows.old before ∷ [] }
     ensures masks { masks.new.items ≡ masks_of rows.new }
 {
     let mut next = 0;
