@@ -1,8 +1,11 @@
 -- Laws of semiflows of minimal support.
 use Rattle.std.specs.Prelude.{◌≡◌, ℕ, ◌*◌, ◌<◌, Bool, List, IsTrue}
+use Rattle.std.specs.Cmp.Lexicographic.{slice_cmp}
+use Rattle.std.specs.Ordering.{nat_cmp}
+use Rattle.net_values.specs.TheList.{IsTheList}
 use Rattle.incidence.specs.Matrix.{Matrix}
-use Rattle.incidence.specs.Semiflow.{IsWithin, IsSemiflow, IsMinimal}
-use Rattle.semiflow_elim.specs.Bases.{IsBasis, AreMinimal}
+use Rattle.incidence.specs.Semiflow.{IsWithin, IsSemiflow, IsMinimal, all_columns}
+use Rattle.semiflow_elim.specs.Bases.{IsBasis, AreMinimal, IsMinimalRow}
 use Rattle.semiflow_elim.specs.Generated.{IsGenerated}
 
 -- the columns at which a test gives true
@@ -25,3 +28,17 @@ BasesAreMinimal = (m : Matrix) (taken : ℕ → Bool) (rows : List (List ℕ)) �
 
 abbrev pub BasesGenerate : Type 0
 BasesGenerate = (m : Matrix) (taken : ℕ → Bool) (rows : List (List ℕ)) → IsBasis m (is_in taken) rows → (y : ℕ → ℕ) → IsSemiflow m (is_in taken) y → IsGenerated m rows y
+
+-- each column of the first matrix stands in the second
+abbrev pub HasColumnsOf : Matrix → Matrix → Type 0
+HasColumnsOf m n = (j : ℕ) → j < m.columns → (k : ℕ) × (k < n.columns) × ((i : ℕ) → i < m.rows → (m.gain i j ≡ n.gain i k) × (m.loss i j ≡ n.loss i k))
+
+-- two matrices with the same columns, which may stand in another order or more than once
+pub record HaveSameColumns (m n : Matrix) : Type 0 where
+  pub rows : m.rows ≡ n.rows
+  pub forth : HasColumnsOf m n
+  pub back : HasColumnsOf n m
+
+-- the list of the minimal semiflows doesn't depend on the order of the columns
+abbrev pub OrderIsFree : Type 0
+OrderIsFree = (m n : Matrix) (list other : List (List ℕ)) → HaveSameColumns m n → IsTheList (slice_cmp nat_cmp) (IsMinimalRow m all_columns) list → IsTheList (slice_cmp nat_cmp) (IsMinimalRow n all_columns) other → list ≡ other

@@ -74,7 +74,7 @@ fn offer_pair(
     Ok(())
 }
 
-/// Offers the combinations of row `i` with all rows.
+/// Offers the combinations of row `i` with all rows, which it has only where it is positive.
 fn offer_pairs(
     alloc: Global,
     matrix: &Incidence,
@@ -95,6 +95,9 @@ fn offer_pairs(
         (k : ℕ) × (k < length rows.now) ×
         IsWidePair (matrix_of matrix.now) column (row_of rows.now i) (row_of rows.now k)) }
 {
+    if sums[i].gain <= sums[i].loss {
+        return Ok(());
+    }
     for k in 0..rows.len() {
         offer_pair(alloc, matrix, column, rows, sums, pool, i, k)?;
     }

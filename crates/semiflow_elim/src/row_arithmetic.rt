@@ -33,6 +33,9 @@ pub(crate) fn gcd_of_all(entries: &[u128]) -> u128
 {
     let mut divisor = 0;
     for entry in entries {
+        if divisor == 1 {
+            return 1;
+        }
         divisor = gcd(divisor, *entry);
     }
     divisor
@@ -43,6 +46,9 @@ pub(crate) fn divide_all(entries: &mut [u128], divisor: u128)
     requires { 0 < divisor }
     ensures { (i : ℕ) → slice_index entries.new i ≡ slice_index entries.old i / divisor }
 {
+    if divisor == 1 {
+        return;
+    }
     for entry in entries.iter_mut() {
         *entry /= divisor;
     }
@@ -52,6 +58,9 @@ pub(crate) fn divide_all(entries: &mut [u128], divisor: u128)
 fn scaled_entry(x: u128, r: u128, y: u128, s: u128) -> Result<u128, WideSum>
     ensures { OkIff result (x * r + y * s < 2 ^ 127) (x * r + y * s) }
 {
+    if r == 0 && s == 0 {
+        return Ok(0);
+    }
     let first = add_product(0, x, r)?;
     add_product(first, y, s)
 }

@@ -1,18 +1,20 @@
+mod named_nets;
+
 use super::*;
 use incidence::Incidence;
-use net_values::{FlatNet, NoMemory, Text};
+use named_nets::{Arc, Entry, NamedNet, OF_PLACES, OF_TRANSITIONS};
+use net_values::{FlatNet, NoMemory, Rows, Text};
 use std::alloc::Global;
 use std::process::Abort;
 use std::test::Fail;
 
-/// The net with this many places and transitions and these arcs: place, transition, whether it leads
-/// to the place, weight.
+/// The net of this many places and transitions and these arcs.
 fn net(
     rt: &impl Abort,
     alloc: Global,
     places: usize,
     transitions: usize,
-    arcs: &[(usize, usize, bool, u64)],
+    arcs: &[Arc],
 ) -> Result<FlatNet, NoMemory> {
     let mut net = FlatNet::new(alloc);
     for _ in 0..places {
@@ -23,91 +25,84 @@ fn net(
         assert!(rt; net.transitions() < 2048);
         net.add_transition(Text::new(alloc))?;
     }
-    for (p, t, back, weight) in arcs {
-        assert!(rt;
-            *p < net.places() && *t < net.transitions() && *weight >= 1 && net.arcs() < 65536
-        );
-        if *back {
-            net.add_output(*t, *p, *weight)?;
+    for (place, transition, weight) in arcs {
+        let amount = weight.unsigned_abs();
+        assert!(rt; *place < net.places() && *transition < net.transitions());
+        assert!(rt; amount >= 1 && amount < 1 << 64 && net.arcs() < 65536);
+        if *weight > 0 {
+            net.add_output(*transition, *place, amount as u64)?;
         } else {
-            net.add_input(*p, *t, *weight)?;
+            net.add_input(*place, *transition, amount as u64)?;
         }
     }
     Ok(net)
 }
 
-#[test]
-fn the_minimal_semiflows_are_listed_in_order(rt: HostRuntime) -> Result<(), Fail> {
-    let alloc = rt.alloc();
-    let cycle = [
-        (0, 0, false, 1),
-        (1, 0, true, 1),
-        (1, 1, false, 1),
-        (0, 1, true, 1),
-    ];
-    let scale = [(0, 0, false, 2), (1, 0, true, 3)];
-    let mutex = [
-        (0, 0, false, 1),
-        (4, 0, false, 1),
-        (2, 0, true, 1),
-        (2, 1, false, 1),
-        (4, 1, true, 1),
-        (0, 1, true, 1),
-        (1, 2, false, 1),
-        (4, 2, false, 1),
-        (3, 2, true, 1),
-        (3, 3, false, 1),
-        (4, 3, true, 1),
-        (1, 3, true, 1),
-    ];
-    for (places, transitions, arcs, expected) in [
-        (2, 2, cycle.as_slice(), [[1, 1, 0, 0, 0]].as_slice()),
-        (2, 1, scale.as_slice(), [[3, 2, 0, 0, 0]].as_slice()),
-        (
-            5,
-            4,
-            mutex.as_slice(),
-            [[0, 0, 1, 1, 1], [0, 1, 0, 1, 0], [1, 0, 1, 0, 0]].as_slice(),
-        ),
-    ] {
-        let net = net(&rt, alloc, places, transitions, arcs)?;
-        let matrix = Incidence::of(alloc, &net)?;
-        let Ok(rows) = minimal_semiflows(alloc, &matrix, 1000) else {
-            assert!(rt; false, "the elimination failed");
-            return Ok(());
-        };
-        assert_eq!(rt; rows.len(), expected.len());
-        for (row, entries) in rows.as_slice().iter().zip(expected) {
-            for (entry, wanted) in row.as_slice().iter().zip(entries.as_slice()) {
-                assert_eq!(rt; *entry, *wanted);
-            }
+/// Whether the list has this many semiflows with these entries and 0 at every other place.
+fn is_list(rows: &Rows, count: usize, entries: &[Entry]) -> bool {
+    let wanted = |number: usize, position: usize| {
+        entries
+            .iter()
+            .find(|entry| entry.0 == number && entry.1 == position)
+            .map_or(0, |entry| entry.2)
+    };
+    rows.len() == count
+        && rows.as_slice().iter().enumerate().all(|(number, row)| {
+            row.as_slice()
+                .iter()
+                .enumerate()
+                .all(|(position, entry)| *entry == wanted(number, position))
+        })
+}
+
+/// The answer on the matrix is that of the named net.
+fn has_answer(rt: &impl Abort, matrix: &Incidence, named: &NamedNet, alloc: Global) {
+    let name = named.name;
+    match (minimal_semiflows(alloc, matrix, 50), &named.answer) {
+        (Ok(rows), Ok((count, entries))) => {
+            assert!(rt; is_list(&rows, *count, entries), "{name}");
         }
+        (Err(fault), Err(wanted)) => assert_eq!(rt; fault, *wanted, "{name}"),
+        _ => assert!(rt; false, "{name}"),
+    }
+}
+
+#[test]
+fn the_named_nets_have_these_minimal_semiflows(rt: HostRuntime) -> Result<(), Fail> {
+    let alloc = rt.alloc();
+    for named in &OF_PLACES {
+        let net = net(&rt, alloc, named.places, named.transitions, named.arcs)?;
+        has_answer(&rt, &Incidence::of(alloc, &net)?, named, alloc);
+    }
+    for named in &OF_TRANSITIONS {
+        let net = net(&rt, alloc, named.places, named.transitions, named.arcs)?;
+        let turned = Incidence::of(alloc, &net)?.transpose(alloc)?;
+        has_answer(&rt, &turned, named, alloc);
     }
     Ok(())
 }
 
 #[test]
-fn a_step_above_its_budget_is_refused(rt: HostRuntime) -> Result<(), Fail> {
+fn a_fan_of_ten_has_a_hundred_semiflows(rt: HostRuntime) -> Result<(), Fail> {
     let alloc = rt.alloc();
-    let fan = [
-        (0, 0, false, 1),
-        (1, 0, false, 1),
-        (2, 0, false, 1),
-        (3, 0, true, 1),
-        (4, 0, true, 1),
-        (5, 0, true, 1),
-    ];
-    let net = net(&rt, alloc, 6, 1, fan.as_slice())?;
-    let matrix = Incidence::of(alloc, &net)?;
-    for (budget, fits) in [(8, false), (9, true)] {
-        match minimal_semiflows(alloc, &matrix, budget) {
-            Ok(rows) => {
-                assert!(rt; fits && rows.len() == 9);
-            }
-            Err(fault) => {
-                assert!(rt; !fits && fault == ElimFault::RowBudget(0, 9));
-            }
-        }
+    let mut arcs = Vec::new(alloc);
+    for place in 0..20 {
+        arcs.push((place, 0, if place < 10 { -1 } else { 1 }))?;
+    }
+    let mut entries = Vec::new(alloc);
+    for number in 0..100 {
+        entries.push((number, 9 - number / 10, 1))?;
+        entries.push((number, 19 - number % 10, 1))?;
+    }
+    let fan = net(&rt, alloc, 20, 1, arcs.as_slice())?;
+    let matrix = Incidence::of(alloc, &fan)?;
+    match minimal_semiflows(alloc, &matrix, 100) {
+        Ok(rows) => assert!(rt; is_list(&rows, 100, entries.as_slice())),
+        Err(_) => assert!(rt; false, "the elimination failed"),
+    }
+    match minimal_semiflows(alloc, &matrix, 99) {
+        Ok(_) => assert!(rt; false, "the budget was passed"),
+        Err(fault) => assert_eq!(rt; fault, ElimFault::RowBudget(0, 100)),
     }
     Ok(())
 }

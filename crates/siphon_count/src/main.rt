@@ -2,9 +2,7 @@
 //! to 200.
 #![tactic(auto)]
 
-mod philosophers;
-
-use philosophers::table_for;
+use bench_nets::philosophers;
 use siphon_branch::{SetFault, minimal_siphons};
 use std::{env, io};
 
@@ -12,11 +10,11 @@ use std::{env, io};
 const MOST_SETS: u32 = 100_000;
 
 fn main(rt: HostRuntime) -> io::Result<()> {
-    let mut philosophers = 0;
+    let mut count = 0;
     for arg in env::args(&rt)?.skip(1) {
-        philosophers = arg.as_str().parse::<u8>().unwrap_or(0);
+        count = arg.as_str().parse::<u8>().unwrap_or(0);
     }
-    let Ok(net) = table_for(rt.alloc(), philosophers) else {
+    let Ok(net) = philosophers(rt.alloc(), count) else {
         return println!(rt; "no such net");
     };
     match minimal_siphons(rt.alloc(), &net, MOST_SETS) {

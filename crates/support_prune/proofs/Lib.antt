@@ -1,3 +1,4 @@
 pub mod SupportLemmas
 pub mod Sieves
 pub mod Offers
+pub mod MaskLemmas

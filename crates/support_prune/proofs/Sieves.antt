@@ -73,3 +73,10 @@ sieved_at passes xs last seen rows rows' next next' rows_same next_same h = reco
   rows_are = rows_same ∙ h.rows_are;
   next_is = next_same ∙ h.next_is;
 }
+
+-- the next row and the last one are rows
+pub sieved_within : {X : Type 0} (passes : X → Bool) (xs : List X) (last : X) (seen : ℕ) (rows kept : List X) (next : ℕ) → Sieved passes xs last seen rows next → kept ≡ rows → (next < length kept) × (length kept - 1 < length kept)
+sieved_within passes xs last seen rows kept next h same =
+    let sizes = sieved_sizes passes xs last seen rows next h in
+    let size = ap length same in
+    (omega (arith, sizes, size), omega (arith, sizes, size))

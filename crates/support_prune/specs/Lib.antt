@@ -1,2 +1,3 @@
 pub mod Supports
 pub mod Pools
+pub mod Masks

@@ -2,6 +2,7 @@
 use Rattle.std.specs.Prelude.{◌≡◌, ℕ, ◌⊎◌, List, [], slice_index_or, All, AllPairs, Any, Contains}
 use Rattle.net_values.specs.TheList.{HaveOneLength}
 use Rattle.support_prune.specs.Supports.{IsWithin}
+use Rattle.support_prune.specs.Masks.{masks_of}
 
 -- the row at a position
 abbrev pub row_at : List (List ℕ) → ℕ → List ℕ
@@ -20,6 +21,11 @@ IsAntichain rows = AllPairs AreApart rows
 pub record IsPool (rows : List (List ℕ)) : Type 0 where
   pub antichain : IsAntichain rows
   pub alike : HaveOneLength rows
+
+-- a pool with the mask of each row
+pub record IsMaskedPool (rows : List (List ℕ)) (masks : List ℕ) : Type 0 where
+  pub pool : IsPool rows
+  pub masks_are : masks ≡ masks_of rows
 
 -- some row has a support in that of this one
 abbrev pub HasWithin : List (List ℕ) → List ℕ → Type 0

@@ -2,6 +2,7 @@
 //! each vector that it was offered.
 #![tactic(auto)]
 
+mod mask;
 mod pool;
 mod support;
 #[cfg(test)]

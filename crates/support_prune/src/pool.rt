@@ -1,9 +1,10 @@
 ghost use Rattle.std.specs.Prelude.{◌≡◌, [], ◌∷◌, ◌++◌, ◌+◌, ◌≤◌, not, OnOk, OnErr, All, length, filter, take};
 ghost use Rattle.std.specs.List.{list_any};
+ghost use Rattle.support_prune.specs.Masks.{mask_of as mask_in_words, masks_of};
 ghost use Rattle.support_prune.specs.Supports.{is_within as within_test};
 ghost use Rattle.support_prune.specs.Pools.{IsPool, Offered, row_at};
 
-use crate::support::is_within;
+use crate::mask::{is_within_masked, mask_of};
 use net_values::{NoMemory, Rows, Vector};
 use std::alloc::Global;
 use std::marker::Model;
@@ -13,17 +14,18 @@ use std::marker::Model;
 #[derive(Drop)]
 pub struct Pool {
     rows: Rows,
+    masks: Vec<u128>,
 }
 
 impl Model for Pool {
     ghost use Rattle.std.specs.Prelude.{List, ℕ};
-    ghost use Rattle.support_prune.specs.Pools.{IsPool};
+    ghost use Rattle.support_prune.specs.Pools.{IsMaskedPool};
 
     ghost Value = { List (List ℕ) };
 
     ghost view = { λ p. p.rows };
 
-    ghost invariant = { λ p. IsPool p.rows };
+    ghost invariant = { λ p. IsMaskedPool p.rows p.masks.items };
 }
 
 impl Pool {
@@ -33,6 +35,7 @@ impl Pool {
     {
         Pool {
             rows: Rows::new(alloc),
+            masks: Vec::new(alloc),
         }
     }
 
@@ -45,12 +48,17 @@ impl Pool {
         ensures count { OnOk result (length self.new ≤ length self.old + 1) }
         ensures err { OnErr result (self.new ≡ self.old) }
     {
-        if has_within(self.rows.as_slice(), &row) {
+        let mask = mask_of(&row);
+        if has_within(self.rows.as_slice(), self.masks.as_slice(), &row, mask) {
             return Ok(());
         }
         let before = self.rows.len();
-        self.rows.push(row)?;
-        drop_wider(&mut self.rows, before);
+        self.masks.push(mask)?;
+        if self.rows.push(row).is_err() {
+            self.masks.truncate(before);
+            return Err(NoMemory);
+        }
+        drop_wider(&mut self.rows, &mut self.masks, before);
         Ok(())
     }
 
@@ -72,22 +80,36 @@ impl Pool {
 }
 
 /// Whether some kept row's support is a subset of the row's.
-fn has_within(kept: &[Vector], row: &Vector) -> bool
+fn has_within(kept: &[Vector], masks: &[u128], row: &Vector, mask: u128) -> bool
+    requires alike { All (λ other. length other ≡ length row.now) kept.now }
+    requires masks { masks.now ≡ masks_of kept.now }
+    requires mask { mask ≡ mask_in_words row.now }
     ensures { result ≡ list_any (λ other. within_test other row.now) kept.now }
 {
-    kept.iter().any(|other| is_within(other, row))
+    for i in 0..kept.len() {
+        if is_within_masked(&kept[i], masks[i], row, mask) {
+            return true;
+        }
+    }
+    false
 }
 
 /// Drops each of the rows before the last one whose support is a superset of the last one's.
-fn drop_wider(rows: &mut Rows, before: usize)
-    requires { length rows.old ≡ before + 1 }
-    ensures { rows.new ≡ filter (λ other. not (within_test (row_at rows.old before) other)) (take before rows.old) ++ row_at rows.old before ∷ [] }
+fn drop_wider(rows: &mut Rows, masks: &mut Vec<u128>, before: usize)
+    requires size { length rows.old ≡ before + 1 }
+    requires masks { masks.old.items ≡ masks_of rows.old }
+    ensures rows { rows.new ≡
+        filter (λ other. not (within_test (row_at rows.old before) other)) (take before rows.old) ++
+        row_at rows.old before ∷ [] }
+    ensures masks { masks.new.items ≡ masks_of rows.new }
 {
     let mut next = 0;
     for _seen in 0..before {
-        let last = rows.len() - 1;
-        if is_within(rows.get(last), rows.get(next)) {
+        let kept = rows.as_slice();
+        let last = kept.len() - 1;
+        if is_within_masked(&kept[last], masks[last], &kept[next], masks[next]) {
             rows.remove(next);
+            masks.remove(next);
         } else {
             next += 1;
         }

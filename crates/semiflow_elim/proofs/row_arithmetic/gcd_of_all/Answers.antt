@@ -2,6 +2,7 @@ use Rattle.std.proofs.Common.{ℕ, ◌≡◌, ◌+◌, List, slice_index, inl, i
 use Rattle.std.specs.Int.{◌∣◌, IsGcd}
 use Rattle.std.proofs.lemmas.Bool.{cases_lt}
 use Rattle.std.proofs.lemmas.Nat.Gcd.{dvd-zero, dvd_trans}
+use Rattle.std.proofs.Math.Nat.{one-dvd}
 use Rattle.semiflow_elim.specs.Arithmetic.{IsGcdOfAll}
 use Rattle.semiflow_elim.proofs.row_arithmetic.gcd_of_all.Goals as goal
 
@@ -22,3 +23,10 @@ loop-entry-init c = record {
 
 pub loop-entry-preserved : goal.loop-entry-preserved
 loop-entry-preserved c = gcd_more _ _ _ _ c.loop-entry.invariant c.gcd-divisor.ensures
+
+-- 1 divides everything, and what divides all entries divides it already
+pub returns-then-divisor-eq1 : goal.returns-then-divisor-eq1
+returns-then-divisor-eq1 c = record {
+  divides = λ i under. one-dvd _;
+  greatest = λ d each. subst (λ (n : ℕ). d ∣ n) c.if-divisor-eq1.true (c.loop-entry.invariant.greatest d (λ i under. each i (omega arith)));
+}

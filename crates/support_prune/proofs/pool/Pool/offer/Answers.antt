@@ -1,4 +1,4 @@
-use Rattle.std.proofs.Common.{◌≡◌, sym, ap, ◌∙◌, subst, ℕ, List, true, false, ◌∷◌, [], ◌++◌, length}
+use Rattle.std.proofs.Common.{◌≡◌, sym, ap, ◌∙◌, subst, ℕ, List, true, false, ◌∷◌, [], ◌++◌, length, rules}
 use Rattle.std.specs.List.{list_any}
 use Rattle.support_prune.specs.Supports.{is_within}
 use Rattle.support_prune.specs.Pools.{IsPool}
@@ -11,7 +11,7 @@ returns-then-has_within-clause-ok c =
     let test : list_any (λ other. is_within other c.args.row) old ≡ true =
     sym (ap (list_any (λ other. is_within other c.args.row)) (c.as_slice.ensures.value ∙ c.self.view_is)) ∙ sym c.has_within.ensures ∙ c.if-has_within.true
     in
-    offered_found old c.args.row (subst IsPool c.self.view_is c.self.invariant) c.requires test
+    offered_found old c.args.row (subst IsPool c.self.view_is c.self.invariant.pool) c.requires test
 
 pub returns-clause-ok : goal.returns-clause-ok
 returns-clause-ok c =
@@ -19,14 +19,16 @@ returns-clause-ok c =
     let test : list_any (λ other. is_within other c.args.row) old ≡ false =
     sym (ap (list_any (λ other. is_within other c.args.row)) (c.as_slice.ensures.value ∙ c.self.view_is)) ∙ sym c.has_within.ensures ∙ c.if-has_within.false
     in
-    offered_new old c.drop_wider.new.rows c.args.row (subst IsPool c.self.view_is c.self.invariant) c.requires test
-    (sieve_of_push old c.args.row c.push.new.self c.drop_wider.new.rows _ (c.in_ok-push.ensures.ok ∙ ap (λ (rows : List (List ℕ)). rows ++ c.args.row ∷ []) c.self.view_is) (c.len-before.ensures ∙ ap length c.self.view_is) c.drop_wider.ensures)
+    let pushed : c.push-2.new.self ≡ c.self.inside.rows ++ c.args.row ∷ [] = search rules in
+    offered_new old c.drop_wider.new.rows c.args.row (subst IsPool c.self.view_is c.self.invariant.pool) c.requires test
+    (sieve_of_push old c.args.row c.push-2.new.self c.drop_wider.new.rows _ (pushed ∙ ap (λ (rows : List (List ℕ)). rows ++ c.args.row ∷ []) c.self.view_is) (c.len-before.ensures ∙ ap length c.self.view_is) c.drop_wider.ensures.rows)
 
 pub returns-clause-count : goal.returns-clause-count
 returns-clause-count c =
     let old = c.args.self.now in
+    let pushed : c.push-2.new.self ≡ c.self.inside.rows ++ c.args.row ∷ [] = search rules in
     short_of_sieve _ old c.drop_wider.new.rows c.args.row
-    (sieve_of_push old c.args.row c.push.new.self c.drop_wider.new.rows _ (c.in_ok-push.ensures.ok ∙ ap (λ (rows : List (List ℕ)). rows ++ c.args.row ∷ []) c.self.view_is) (c.len-before.ensures ∙ ap length c.self.view_is) c.drop_wider.ensures)
+    (sieve_of_push old c.args.row c.push-2.new.self c.drop_wider.new.rows _ (pushed ∙ ap (λ (rows : List (List ℕ)). rows ++ c.args.row ∷ []) c.self.view_is) (c.len-before.ensures ∙ ap length c.self.view_is) c.drop_wider.ensures.rows)
 
 pub invariant_of-self-2 : goal.invariant_of-self-2
-invariant_of-self-2 c = (returns-clause-ok c).pool
+invariant_of-self-2 c = record { pool = (returns-clause-ok c).pool; masks_are = c.drop_wider.ensures.masks }
