@@ -27,6 +27,6 @@ pub mod RowLaws
 pub mod ReadingTrees
 pub mod LastNodes
 pub mod Spots
+pub mod Missing
 pub mod Endings
 pub mod DocumentLaws
-pub mod Missing
