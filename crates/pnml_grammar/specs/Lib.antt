@@ -22,3 +22,4 @@ pub mod Documents
 pub mod Machine
 pub mod FirstFault
 pub mod LegalTexts
+pub mod CanonicalTexts

@@ -1,3 +1,4 @@
+ghost use Rattle.pnml_grammar.specs.CanonicalTexts.{TellDocumentsApart};
 ghost use Rattle.pnml_grammar.specs.Documents.{SpellOneDocument};
 ghost use Rattle.pnml_grammar.specs.Tokens.{HasOneToken};
 
@@ -9,4 +10,9 @@ pub fn one_token()
 /// Bytes spell at most one document.
 pub fn one_document()
     ensures { SpellOneDocument }
+{}
+
+/// Canonical texts of valued documents are equal exactly where the documents are equal.
+pub fn canonical_text_tells_documents_apart()
+    ensures { TellDocumentsApart }
 {}

@@ -9,6 +9,6 @@ mod reason;
 mod token;
 
 pub use element::{AttributeKind, Context, ElementKind};
-pub use law::{one_document, one_token};
+pub use law::{canonical_text_tells_documents_apart, one_document, one_token};
 pub use reason::{Counted, Reason};
 pub use token::{Attribute, Attributes, Token};
