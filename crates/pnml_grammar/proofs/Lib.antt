@@ -27,12 +27,12 @@ pub mod RowLaws
 pub mod ReadingTrees
 pub mod LastNodes
 pub mod Spots
+pub mod EscapeLaws
+pub mod Missing
 pub mod Endings
 pub mod DocumentLaws
-pub mod Missing
 pub mod ValuedWalks
 pub mod ValuedTestLaws
-pub mod EscapeLaws
 pub mod CanonTokens
 pub mod CanonPieces
 pub mod CanonElements

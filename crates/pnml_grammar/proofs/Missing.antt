@@ -1,18 +1,14 @@
 -- What an open element may lack in the end: the root its net, and the text of a number its number. A net without
 -- children, or a 1, makes it whole, and a document without a root is made whole by a root with such a net.
-use Rattle.std.proofs.Common.{◌≡◌, ℕ, ◌⊎◌, inl, inr, refl, sym, ap, ◌∙◌, List, [], ◌∷◌, ◌++◌, append-nil, length, length-append, Option, Some, None, Bool, true, false, IsTrue, nat_le, codes, arith, true≢false}
-use Rattle.std.specs.Prelude.{encode_utf8}
-use Rattle.std.specs.List.{AllByRecursion, list_all}
-use Rattle.std.proofs.lemmas.Bool.{and_parts, leb-true, leb-false, le-leb}
-use Rattle.std.proofs.lemmas.Str.{encode_ascii}
-use Rattle.net_values.specs.Characters.{IsLegalText}
+use Rattle.std.proofs.Common.{◌≡◌, ℕ, ◌⊎◌, inl, inr, refl, sym, ap, ◌∙◌, List, [], ◌∷◌, ◌++◌, length, length-append, Option, Some, None, Bool, true, false, IsTrue, nat_le, codes, arith, true≢false}
+use Rattle.std.specs.List.{AllByRecursion}
+use Rattle.std.proofs.lemmas.Bool.{and_parts, leb-false, le-leb}
 use Rattle.net_values.specs.declared.document.NetTree.{NetTree}
 use Rattle.pnml_grammar.specs.declared.element.ElementKind.{ElementKind}
 use Rattle.pnml_grammar.specs.declared.element.ElementKind.TheVariants as elements
 use Rattle.pnml_grammar.specs.declared.element.Context.{Context}
 use Rattle.pnml_grammar.specs.declared.element.Context.TheVariants as contexts
 use Rattle.pnml_grammar.specs.declared.token.Attribute.{Attribute}
-use Rattle.pnml_grammar.specs.Characters.{is_between}
 use Rattle.pnml_grammar.specs.Elements.{element_named, context_in, context_if_any, context_of_kind, context_of_text, may_hold, may_stand, may_stand_as, element_names, element_kinds, attribute_named, attribute_names, attribute_kinds, has_namespace, has_type, has_attributes, has_needed, fits, is_id}
 use Rattle.pnml_grammar.specs.Canon.{namespace, net_type}
 use Rattle.pnml_grammar.specs.Numerals.{number_in, numeral}
@@ -21,25 +17,10 @@ use Rattle.pnml_grammar.specs.Contents.{Content, ◌then◌, node_content}
 use Rattle.pnml_grammar.specs.Counts.{no_counts, node_counts}
 use Rattle.pnml_grammar.specs.Documents.{HasFew, is_complete, IsChild}
 use Rattle.pnml_grammar.specs.LegalTexts.{HasLegalTexts, HaveLegalValues}
-use Rattle.pnml_grammar.proofs.LegalLaws.{legal_join, legal_nothing}
+use Rattle.pnml_grammar.proofs.EscapeLaws.{printed_text}
 use Rattle.pnml_grammar.proofs.ContentLaws.{few_from, few_nothing}
 use Rattle.pnml_grammar.proofs.FirstLaws.{is_inside}
 use Rattle.pnml_grammar.proofs.RowLaws.{is_outside}
-
--- ---- texts of printed characters are legal
-
-printed_one : (byte : ℕ) → is_between 32 126 byte ≡ true → IsLegalText (byte ∷ [])
-printed_one byte e =
-    let parts = and_parts (nat_le 32 byte) (nat_le byte 126) e in
-    let low = leb-true 32 byte parts.0 in
-    let high = leb-true byte 126 parts.1 in
-    (byte ∷ [], (inr (inr (inr (inl (low, omega arith)))), tt), append-nil (encode_utf8 byte) ∙ encode_ascii byte (omega arith))
-
-printed_legal : (bytes : List ℕ) → list_all (is_between 32 126) bytes ≡ true → IsLegalText bytes
-printed_legal [] e = legal_nothing
-printed_legal (byte ∷ bytes) e =
-    let parts = and_parts (is_between 32 126 byte) (list_all (is_between 32 126) bytes) e in
-    legal_join (byte ∷ []) bytes (printed_one byte parts.0) (printed_legal bytes parts.1)
 
 -- ---- the net, the number and the root
 
@@ -72,7 +53,7 @@ unfolding element_named element_names element_kinds attribute_named attribute_na
 root_stands = refl
 
 net_legal : HaveLegalValues net_attributes
-net_legal = (printed_legal (codes "n") refl, (printed_legal net_type refl, tt))
+net_legal = (printed_text (codes "n") refl, (printed_text net_type refl, tt))
 
 -- ---- what makes an element whole
 
@@ -112,7 +93,7 @@ missing_completes contexts.MarkingText content few e =
       few = few_from content (node_content contexts.MarkingText (characters (codes "1"))) (omega arith);
       complete = one_behind content.numerals 1;
       uncounted = refl;
-      legal = (printed_legal (codes "1") refl, tt);
+      legal = (printed_text (codes "1") refl, tt);
     }
 missing_completes contexts.WeightText content few e =
     let lacks = none_yet content.numerals e in
@@ -121,7 +102,7 @@ missing_completes contexts.WeightText content few e =
       few = few_from content (node_content contexts.WeightText (characters (codes "1"))) (omega arith);
       complete = one_behind content.numerals 1;
       uncounted = refl;
-      legal = (printed_legal (codes "1") refl, tt);
+      legal = (printed_text (codes "1") refl, tt);
     }
 missing_completes context content few e = absurd (true≢false e)
 
@@ -184,5 +165,5 @@ root_makes_whole content few lacks =
       few = few_from content (node_content contexts.Document whole_root) (omega arith);
       one = ap (λ (nets : List NetTree). nets ++ record { id = codes "n"; name = None; items = [] } ∷ []) lacks;
       uncounted = refl;
-      legal = ((printed_legal namespace refl, tt), (net_legal, (tt, tt)));
+      legal = ((printed_text namespace refl, tt), (net_legal, (tt, tt)));
     }
