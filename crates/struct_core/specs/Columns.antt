@@ -2,17 +2,17 @@
 use Rattle.std.specs.Prelude.{◌≡◌, ℕ, List, All, length}
 use Rattle.net_values.specs.FlatNets.{NetLists, net_of}
 use Rattle.incidence.specs.Matrix.{Matrix}
-use Rattle.report.specs.Nodes.{place_name, transition_name}
+use Rattle.report.specs.Nodes.{place_id, transition_id}
 use Rattle.struct_core.specs.declared.semiflows.Columns.{Columns}
 use Rattle.struct_core.specs.declared.semiflows.Columns.TheVariants.{Transitions, Places}
 
 abbrev pub row_name : Columns → NetLists → ℕ → List ℕ
-row_name Transitions net = place_name net
-row_name Places net = transition_name net
+row_name Transitions net = place_id net
+row_name Places net = transition_id net
 
 abbrev pub column_name : Columns → NetLists → ℕ → List ℕ
-column_name Transitions net = transition_name net
-column_name Places net = place_name net
+column_name Transitions net = transition_id net
+column_name Places net = place_id net
 
 abbrev pub row_count : Columns → NetLists → ℕ
 row_count Transitions net = (net_of net).places

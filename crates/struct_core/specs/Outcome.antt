@@ -7,7 +7,7 @@ use Rattle.closed_sets.specs.Commoner.{IsOrdinary}
 use Rattle.net_class.specs.declared.membership.Class.{Class}
 use Rattle.net_class.specs.Classes.{IsStateMachine, IsMarkedGraph, IsFreeChoice}
 use Rattle.incidence.specs.Matrix.{incidence_of, transposed}
-use Rattle.report.specs.Nodes.{place_name, transition_name}
+use Rattle.report.specs.Nodes.{place_id, transition_id}
 use Rattle.report.specs.Texts.{check_text, class_text}
 use Rattle.pnml_grammar.specs.Canon.{canon}
 use Rattle.pnml_grammar.specs.Documents.{DocBytes}
@@ -39,13 +39,13 @@ TaskOutcome tasks.Canon budgets document net status text = (status ≡ 0) × (te
 TaskOutcome tasks.Class budgets document net status text =
     (status ≡ 0) × (class : Class) × HasClass (net_of net) class × (text ≡ class_text class)
 TaskOutcome tasks.Places budgets document net status text =
-    SemiflowOutcome (incidence_of (net_of net)) (place_name net) (transition_name net) budgets.rows status text
+    SemiflowOutcome (incidence_of (net_of net)) (place_id net) (transition_id net) budgets.rows status text
 TaskOutcome tasks.Transitions budgets document net status text =
-    SemiflowOutcome (transposed (incidence_of (net_of net))) (transition_name net) (place_name net) budgets.rows status text
+    SemiflowOutcome (transposed (incidence_of (net_of net))) (transition_id net) (place_id net) budgets.rows status text
 TaskOutcome tasks.Siphons budgets document net status text =
-    SetOutcome (net_of net) (codes "siphons") (place_name net) budgets.sets status text
+    SetOutcome (net_of net) (codes "siphons") (place_id net) budgets.sets status text
 TaskOutcome tasks.Traps budgets document net status text =
-    SetOutcome (reversed (net_of net)) (codes "traps") (place_name net) budgets.sets status text
+    SetOutcome (reversed (net_of net)) (codes "traps") (place_id net) budgets.sets status text
 
 -- what an order gives for an input
 pub data Outcome : Order → List ℕ → ℕ → List ℕ → Type 0 where

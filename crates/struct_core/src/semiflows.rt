@@ -3,7 +3,7 @@ ghost use Rattle.net_values.specs.FlatNets.{net_of};
 ghost use Rattle.incidence.specs.Matrix.{incidence_of, transposed};
 ghost use Rattle.incidence.specs.Tables.{matrix_of};
 ghost use Rattle.semiflow_elim.specs.FirstFail.{IsExplained};
-ghost use Rattle.report.specs.Nodes.{place_name, transition_name};
+ghost use Rattle.report.specs.Nodes.{place_id, transition_id};
 ghost use Rattle.report.specs.Texts.{semiflows_text};
 ghost use Rattle.struct_core.specs.declared.refusal.Refusal.{Refusal as Refusing};
 ghost use Rattle.struct_core.specs.Answers.{FailsWith};
@@ -29,9 +29,9 @@ pub(crate) enum Columns {
 /// The text of `places`, with at most `budget` candidates at each step.
 pub(crate) fn places(alloc: Global, net: &FlatNet, budget: u32) -> Result<Text, Refusal>
     ensures text { IfOk result
-        (SemiflowOutcome (incidence_of (net_of net.now)) (place_name net.now) (transition_name net.now) budget 0) }
+        (SemiflowOutcome (incidence_of (net_of net.now)) (place_id net.now) (transition_id net.now) budget 0) }
     ensures refused { IfErr result
-        (FailsWith (SemiflowOutcome (incidence_of (net_of net.now)) (place_name net.now) (transition_name net.now) budget)) }
+        (FailsWith (SemiflowOutcome (incidence_of (net_of net.now)) (place_id net.now) (transition_id net.now) budget)) }
 {
     let matrix = Incidence::of(alloc, net)?;
     list(alloc, net, &matrix, Columns::Transitions, budget)
@@ -40,9 +40,9 @@ pub(crate) fn places(alloc: Global, net: &FlatNet, budget: u32) -> Result<Text, 
 /// The text of `transitions`, with at most `budget` candidates at each step.
 pub(crate) fn transitions(alloc: Global, net: &FlatNet, budget: u32) -> Result<Text, Refusal>
     ensures text { IfOk result
-        (SemiflowOutcome (transposed (incidence_of (net_of net.now))) (transition_name net.now) (place_name net.now) budget 0) }
+        (SemiflowOutcome (transposed (incidence_of (net_of net.now))) (transition_id net.now) (place_id net.now) budget 0) }
     ensures refused { IfErr result (FailsWith
-        (SemiflowOutcome (transposed (incidence_of (net_of net.now))) (transition_name net.now) (place_name net.now) budget)) }
+        (SemiflowOutcome (transposed (incidence_of (net_of net.now))) (transition_id net.now) (place_id net.now) budget)) }
 {
     let incidence = Incidence::of(alloc, net)?;
     let matrix = incidence.transpose(alloc)?;
