@@ -4,8 +4,8 @@ ghost use Rattle.pnml_grammar.specs.Machine.{is_pnml, is_number_text};
 
 use pnml_grammar::{AttributeKind, Context, ElementKind};
 
-/// Whether the row of one variant has another one: each row lists the variants that it is for, and those that
-/// it has.
+/// Whether the row of one variant has another one: each row lists the variants that it is for, and
+/// those that it has.
 macro_rules! table {
     ($of:ident::$one:ident, $in:ident::$other:ident; $($($row:ident)|+ => $($entry:ident)|+;)+) => {
         match $one {

@@ -26,7 +26,11 @@ pub(crate) fn net(
     attributes: &Attributes,
     content: Content,
 ) -> Result<NetTree, NoMemory>
-    ensures { IfOk result (λ net. net ≡ record { id = id_in attributes.now; name = first_value content.names; items = content.items }) }
+    ensures { IfOk result (λ net. net ≡ record {
+      id = id_in attributes.now;
+      name = first_value content.names;
+      items = content.items;
+    }) }
 {
     let Content { names, items, .. } = content;
     made!(NetTree of attributes, names by alloc; items: items)
@@ -38,7 +42,10 @@ pub(crate) fn page(
     attributes: &Attributes,
     names: List<Option<Text>>,
 ) -> Result<PageNode, NoMemory>
-    ensures { IfOk result (λ page. page ≡ record { id = id_in attributes.now; name = first_value names }) }
+    ensures { IfOk result (λ page. page ≡ record {
+      id = id_in attributes.now;
+      name = first_value names;
+    }) }
 {
     made!(PageNode of attributes, names by alloc)
 }
@@ -63,7 +70,10 @@ pub(crate) fn transition(
     attributes: &Attributes,
     names: List<Option<Text>>,
 ) -> Result<TransitionNode, NoMemory>
-    ensures { IfOk result (λ transition. transition ≡ record { id = id_in attributes.now; name = first_value names }) }
+    ensures { IfOk result (λ transition. transition ≡ record {
+      id = id_in attributes.now;
+      name = first_value names;
+    }) }
 {
     made!(TransitionNode of attributes, names by alloc)
 }
