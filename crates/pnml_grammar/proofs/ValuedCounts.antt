@@ -26,7 +26,7 @@ pub record AreCounted (counts : Counts) (items : List Item) : Type 0 where
   pub pages : count_by is_page items ≤ counts.pages
 
 none_counted : (counts : Counts) → AreCounted counts []
-none_counted counts = record { places = omega arith; transitions = omega arith; arcs = omega arith; references = omega arith; pages = omega arith }
+none_counted counts = omega arith
 
 -- one list behind the other
 more_counted : (one other : Counts) (xs ys : List Item) → AreCounted one xs → AreCounted other ys → AreCounted (one plus other) (xs ++ ys)
@@ -39,22 +39,10 @@ more_counted one other xs ys a b = record {
 }
 
 counted_first : (one other : Counts) (items : List Item) → AreCounted one items → AreCounted (one plus other) items
-counted_first one other items a = record {
-  places = omega (arith, a.places);
-  transitions = omega (arith, a.transitions);
-  arcs = omega (arith, a.arcs);
-  references = omega (arith, a.references);
-  pages = omega (arith, a.pages);
-}
+counted_first one other items a = omega (arith, a)
 
 counted_second : (one other : Counts) (items : List Item) → AreCounted other items → AreCounted (one plus other) items
-counted_second one other items a = record {
-  places = omega (arith, a.places);
-  transitions = omega (arith, a.transitions);
-  arcs = omega (arith, a.arcs);
-  references = omega (arith, a.references);
-  pages = omega (arith, a.pages);
-}
+counted_second one other items a = omega (arith, a)
 
 abbrev pub IsNetCounted : Counts → NetTree → Type 0
 IsNetCounted counts net = AreCounted counts net.items
@@ -91,10 +79,6 @@ text_counted : (context : Context) (attributes : List Attribute) (counts : Count
 text_counted contexts.Name attributes counts c = record { nets = tt; items = none_counted counts }
 text_counted context attributes counts c = record { nets = tt; items = none_counted counts }
 
-one_counted : (one : Counts) (item : Item) → count_by is_place (item ∷ []) ≤ one.places → count_by is_transition (item ∷ []) ≤ one.transitions → count_by is_arc (item ∷ []) ≤ one.arcs
-    → count_by is_reference (item ∷ []) ≤ one.references → count_by is_page (item ∷ []) ≤ one.pages → AreCounted one (item ∷ [])
-one_counted one item places transitions arcs references pages = record { places = places; transitions = transitions; arcs = arcs; references = references; pages = pages }
-
 element_counted : (context : Context) (kind : ElementKind) (attributes : List Attribute) (counts : Counts) (c : Content) → GivesCounted counts c
     → GivesCounted (counts_of_kind kind plus counts) (gives (context_of_kind context kind) attributes c)
 element_counted context elements.Pnml attributes counts c each = record {
@@ -103,13 +87,13 @@ element_counted context elements.Pnml attributes counts c each = record {
 }
 element_counted context elements.Net attributes counts c each = record { nets = (counted_second no_counts counts c.items each.items, tt); items = none_counted _ }
 element_counted context elements.Page attributes counts c each = record { nets = tt; items = page_counted record { id = id_in attributes; name = first_value c.names } counts c.items each.items }
-element_counted context elements.Place attributes counts c each = item_counted (counts_of_kind elements.Place) counts _ (one_counted _ _ (omega arith) (omega arith) (omega arith) (omega arith) (omega arith))
-element_counted context elements.Transition attributes counts c each = item_counted (counts_of_kind elements.Transition) counts _ (one_counted _ _ (omega arith) (omega arith) (omega arith) (omega arith) (omega arith))
-element_counted context elements.Arc attributes counts c each = item_counted (counts_of_kind elements.Arc) counts _ (one_counted _ _ (omega arith) (omega arith) (omega arith) (omega arith) (omega arith))
+element_counted context elements.Place attributes counts c each = item_counted (counts_of_kind elements.Place) counts _ (omega arith)
+element_counted context elements.Transition attributes counts c each = item_counted (counts_of_kind elements.Transition) counts _ (omega arith)
+element_counted context elements.Arc attributes counts c each = item_counted (counts_of_kind elements.Arc) counts _ (omega arith)
 element_counted context elements.ReferencePlace attributes counts c each =
-    item_counted (counts_of_kind elements.ReferencePlace) counts _ (one_counted _ _ (omega arith) (omega arith) (omega arith) (omega arith) (omega arith))
+    item_counted (counts_of_kind elements.ReferencePlace) counts _ (omega arith)
 element_counted context elements.ReferenceTransition attributes counts c each =
-    item_counted (counts_of_kind elements.ReferenceTransition) counts _ (one_counted _ _ (omega arith) (omega arith) (omega arith) (omega arith) (omega arith))
+    item_counted (counts_of_kind elements.ReferenceTransition) counts _ (omega arith)
 element_counted context elements.Text attributes counts c each = text_counted context attributes _ c
 element_counted context kind attributes counts c each = record { nets = tt; items = none_counted _ }
 

@@ -18,13 +18,7 @@ use Rattle.pnml_grammar.proofs.ValuedHeights.{IsLowNet, GivesLow, heights_are_ke
 use Rattle.pnml_grammar.proofs.ValuedCounts.{AreCounted, IsNetCounted, GivesCounted, counts_are_kept}
 
 within_limits : (counts : Counts) (items : List Item) → IsWithin counts → AreCounted counts items → IsWithinLimits items
-within_limits counts items within are = record {
-  places = omega (arith, within.places, are.places);
-  transitions = omega (arith, within.transitions, are.transitions);
-  arcs = omega (arith, within.arcs, are.arcs);
-  references = omega (arith, within.references, are.references);
-  pages = omega (arith, within.pages, are.pages);
-}
+within_limits counts items within are = omega (arith, within, are)
 
 the_net : (P : NetTree → Type 0) (nets : List NetTree) (net : NetTree) → nets ≡ net ∷ [] → AllByRecursion P nets → P net
 the_net P nets net e each = (subst (AllByRecursion P) e each).0

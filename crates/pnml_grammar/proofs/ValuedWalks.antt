@@ -31,22 +31,15 @@ pub record AreWithin (walk : Walk) (items : List Item) : Type 0 where
   pub references : walk.references + count_by is_reference items ≤ 4096
   pub pages : walk.pages + count_by is_page items ≤ 1024
 
-record CountsItem (walk : Walk) (item : Item) : Type 0 where
-  places : (behind walk item).places ≡ walk.places + count_by is_place (item ∷ [])
-  transitions : (behind walk item).transitions ≡ walk.transitions + count_by is_transition (item ∷ [])
-  arcs : (behind walk item).arcs ≡ walk.arcs + count_by is_arc (item ∷ [])
-  references : (behind walk item).references ≡ walk.references + count_by is_reference (item ∷ [])
-  pages : (behind walk item).pages ≡ walk.pages + count_by is_page (item ∷ [])
+-- what was passed and what is left are together as many behind an item as before it
+record KeepsSums (walk : Walk) (item : Item) (items : List Item) : Type 0 where
+  places : (behind walk item).places + count_by is_place items ≡ walk.places + count_by is_place (item ∷ items)
+  transitions : (behind walk item).transitions + count_by is_transition items ≡ walk.transitions + count_by is_transition (item ∷ items)
+  arcs : (behind walk item).arcs + count_by is_arc items ≡ walk.arcs + count_by is_arc (item ∷ items)
+  references : (behind walk item).references + count_by is_reference items ≡ walk.references + count_by is_reference (item ∷ items)
+  pages : (behind walk item).pages + count_by is_page items ≡ walk.pages + count_by is_page (item ∷ items)
 
-counts_item : (walk : Walk) (item : Item) → CountsItem walk item
-counts_item walk (Page page) = omega arith
-counts_item walk PageEnd = omega arith
-counts_item walk (Place place) = omega arith
-counts_item walk (Transition transition) = omega arith
-counts_item walk (RefPlace node) = omega arith
-counts_item walk (RefTransition node) = omega arith
-counts_item walk (Arc arc) = omega arith
-
+-- the first is counted apart from the others
 record CountsFirst (item : Item) (items : List Item) : Type 0 where
   places : count_by is_place (item ∷ items) ≡ count_by is_place (item ∷ []) + count_by is_place items
   transitions : count_by is_transition (item ∷ items) ≡ count_by is_transition (item ∷ []) + count_by is_transition items
@@ -63,29 +56,20 @@ counts_first item items = record {
   pages = count_by_append is_page (item ∷ []) items;
 }
 
+keeps_sums : (walk : Walk) (item : Item) (items : List Item) → KeepsSums walk item items
+keeps_sums walk (Page page) items = omega (arith, counts_first (Page page) items)
+keeps_sums walk PageEnd items = omega (arith, counts_first PageEnd items)
+keeps_sums walk (Place place) items = omega (arith, counts_first (Place place) items)
+keeps_sums walk (Transition transition) items = omega (arith, counts_first (Transition transition) items)
+keeps_sums walk (RefPlace node) items = omega (arith, counts_first (RefPlace node) items)
+keeps_sums walk (RefTransition node) items = omega (arith, counts_first (RefTransition node) items)
+keeps_sums walk (Arc arc) items = omega (arith, counts_first (Arc arc) items)
+
 within_before : (walk : Walk) (item : Item) (items : List Item) → AreWithin (behind walk item) items → AreWithin walk (item ∷ items)
-within_before walk item items within =
-    let one = counts_item walk item in
-    let all = counts_first item items in
-    record {
-      places = omega (arith, within.places, one.places, all.places);
-      transitions = omega (arith, within.transitions, one.transitions, all.transitions);
-      arcs = omega (arith, within.arcs, one.arcs, all.arcs);
-      references = omega (arith, within.references, one.references, all.references);
-      pages = omega (arith, within.pages, one.pages, all.pages);
-    }
+within_before walk item items within = omega (arith, within, keeps_sums walk item items)
 
 within_behind : (walk : Walk) (item : Item) (items : List Item) → AreWithin walk (item ∷ items) → AreWithin (behind walk item) items
-within_behind walk item items within =
-    let one = counts_item walk item in
-    let all = counts_first item items in
-    record {
-      places = omega (arith, within.places, one.places, all.places);
-      transitions = omega (arith, within.transitions, one.transitions, all.transitions);
-      arcs = omega (arith, within.arcs, one.arcs, all.arcs);
-      references = omega (arith, within.references, one.references, all.references);
-      pages = omega (arith, within.pages, one.pages, all.pages);
-    }
+within_behind walk item items within = omega (arith, within, keeps_sums walk item items)
 
 -- ---- pages
 
