@@ -1,5 +1,5 @@
 -- Adding to one of the lists of a content adds a content that has nothing else.
-use Rattle.std.proofs.Common.{◌≡◌, ℕ, ◌++◌, List, [], ◌∷◌, Option, refl, sym}
+use Rattle.std.proofs.Common.{◌≡◌, ℕ, ◌++◌, List, [], ◌∷◌, Option, refl, sym, ap, ◌∙◌, append_assoc}
 use Rattle.std.proofs.lemmas.List.{append-nil}
 use Rattle.net_values.specs.declared.document.NetTree.{NetTree}
 use Rattle.net_values.specs.declared.document.Item.{Item}
@@ -96,3 +96,11 @@ gave_numerals a xs = λ i. record {
   bytes = none a.bytes i;
   numerals = a.numerals ++ xs;
 }
+
+page_parts : (old inner : List Item) (page close : Item) → ((old ++ page ∷ []) ++ inner) ++ close ∷ [] ≡ old ++ ((page ∷ inner) ++ close ∷ [])
+page_parts old inner page close = append_assoc (old ++ page ∷ []) inner (close ∷ []) ∙ append_assoc old (page ∷ []) (inner ++ close ∷ [])
+
+pub gave_page : (a : Content) (page : Item) (inner : List Item) →
+    record a { items = ((a.items ++ page ∷ []) ++ inner) ++ PageEnd ∷ [] } ≡ (a then record nothing { items = (page ∷ inner) ++ PageEnd ∷ [] })
+gave_page a page inner =
+    ap (λ (items : List Item). record a { items = items }) (page_parts a.items inner page PageEnd) ∙ gave_items a ((page ∷ inner) ++ PageEnd ∷ [])

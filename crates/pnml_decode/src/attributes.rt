@@ -51,9 +51,13 @@ pub(crate) fn has_type(element: ElementKind, attributes: &[Attribute]) -> bool
 pub(crate) fn has_attributes(element: ElementKind, attributes: &[Attribute]) -> bool
     ensures { result ≡ has_attributes element attributes.now }
 {
-    is_skipped(element)
-        || (attributes.iter().all(|attribute| fits(element, attribute))
-            && has_needed(element, attributes))
+    is_skipped(element) || (all_fit(element, attributes) && has_needed(element, attributes))
+}
+
+fn all_fit(element: ElementKind, attributes: &[Attribute]) -> bool
+    ensures { result ≡ list_all (fits element) attributes.now }
+{
+    attributes.iter().all(|attribute| fits(element, attribute))
 }
 
 /// An attribute that the element may have; one with a colon in its name is ignored.

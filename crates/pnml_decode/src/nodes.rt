@@ -130,7 +130,6 @@ fn value_in(alloc: Global, name: &[u8], attributes: &Attributes) -> Result<Text,
 }
 
 /// The value of a label; one without a text is as if it were absent.
-#[tactic(auto, using(crate::proofs::Lists::first_value_is))]
 fn label<T: Drop>(labels: List<Option<T>>) -> Option<T>
     ensures { result ≡ first_value labels }
 {

@@ -1,9 +1,10 @@
 ghost use Rattle.std.specs.Prelude.{◌≡◌};
-ghost use Rattle.std.specs.Str.Parse.{digits_value};
+ghost use Rattle.std.specs.List.{prefix_len};
+ghost use Rattle.std.specs.Str.Parse.{AllDigits};
 ghost use Rattle.pnml_grammar.specs.Characters.{is_space};
 ghost use Rattle.pnml_grammar.specs.Runs.{passed, behind};
 ghost use Rattle.pnml_grammar.specs.Numerals.{is_digit, is_white, numeral, number_in};
-ghost use Rattle.pnml_decode.specs.Numbers.{AreDigits, narrow, narrow_if_any};
+ghost use Rattle.pnml_decode.specs.Numbers.{number_of, narrow_if_any};
 
 use pnml_grammar::Context;
 
@@ -33,17 +34,13 @@ fn numeral(bytes: &[u8]) -> Option<u64>
     ensures { result ≡ narrow_if_any (numeral bytes.now) }
 {
     let (digits, rest) = split_digits(past_space(bytes));
-    if digits.is_empty() || !is_white(rest) {
-        None
-    } else {
-        number(digits)
-    }
+    if is_white(rest) { number(digits) } else { None }
 }
 
-/// The number that the digits write, where it is below 2^64.
+/// The number that the digits write, where there are some and it is below 2^64.
 fn number(digits: &[u8]) -> Option<u64>
-    requires { AreDigits digits.now }
-    ensures { result ≡ narrow (digits_value 10 digits.now) }
+    requires { AllDigits 10 digits.now }
+    ensures { result ≡ number_of digits.now }
 {
     match std::str::from_utf8(digits) {
         Ok(text) => text.parse::<u64>().ok(),
@@ -55,20 +52,31 @@ fn number(digits: &[u8]) -> Option<u64>
 fn split_digits(bytes: &[u8]) -> (&[u8], &[u8])
     ensures digits { result.0.now ≡ passed is_digit bytes.now }
     ensures rest { result.1.now ≡ behind is_digit bytes.now }
+    ensures decimal { AllDigits 10 result.0.now }
 {
-    let count = bytes
+    bytes.split_at(digits_length(bytes))
+}
+
+fn digits_length(bytes: &[u8]) -> usize
+    ensures { result ≡ prefix_len is_digit bytes.now }
+{
+    bytes
         .iter()
         .take_while(|byte| byte.is_ascii_digit())
-        .count();
-    bytes.split_at(count)
+        .count()
 }
 
 /// What stands behind the white space at the front.
 fn past_space(bytes: &[u8]) -> &[u8]
     ensures { result.now ≡ behind is_space bytes.now }
 {
-    let count = bytes.iter().take_while(|byte| is_space(**byte)).count();
-    &bytes[count..]
+    bytes.split_at(space_length(bytes)).1
+}
+
+fn space_length(bytes: &[u8]) -> usize
+    ensures { result ≡ prefix_len is_space bytes.now }
+{
+    bytes.iter().take_while(|byte| is_space(**byte)).count()
 }
 
 /// White space (XML 1.0, production 3, S).

@@ -54,9 +54,10 @@ impl Reader {
         ensures { result ≡ finish (view self) }
     {
         let Reader { top, mut under, .. } = self;
+        let Open { content, .. } = top;
         match under.pop() {
             Some(_) => None,
-            None => the_one(top.content.nets),
+            None => the_one(content.nets),
         }
     }
 

@@ -43,10 +43,7 @@ impl Reader {
     {
         match self.top.context {
             Context::Skipped => self.depth_reason(),
-            _ => match ElementKind::named(name) {
-                None => Some(Reason::UnknownElement),
-                Some(element) => self.tag_reason(empty, attributes, element),
-            },
+            _ => self.tag_reason(empty, attributes, ElementKind::named(name)),
         }
     }
 
@@ -73,10 +70,13 @@ impl Reader {
         &self,
         empty: bool,
         attributes: &[Attribute],
-        element: ElementKind,
+        element: Option<ElementKind>,
     ) -> Option<Reason>
-        ensures { result ≡ first_row (tag_rows (view self.now) empty attributes.now (Some element)) }
+        ensures { result ≡ first_row (tag_rows (view self.now) empty attributes.now element) }
     {
+        let Some(element) = element else {
+            return Some(Reason::UnknownElement);
+        };
         if !has_namespace(element, attributes) {
             return Some(Reason::OtherNamespace);
         }
