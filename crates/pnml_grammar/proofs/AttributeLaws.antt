@@ -22,10 +22,10 @@ pub record HasTexts (w : Written) : Type 0 where
   pub name : IsUtf8 w.name
   pub body : IsUtf8 w.body
 
-quote_is_ascii : (q : ℕ) → (q ≡ 34) ⊎ (q ≡ 39) → q < 128
+pub quote_is_ascii : (q : ℕ) → (q ≡ 34) ⊎ (q ≡ 39) → q < 128
 quote_is_ascii q h = grind (arith, nat_tests)
 
-parts_again : (gap name before after : List ℕ) (q : ℕ) (body rest : List ℕ)
+pub parts_again : (gap name before after : List ℕ) (q : ℕ) (body rest : List ℕ)
     → (gap ++ (name ++ (before ++ (61 ∷ (after ++ (q ∷ (body ++ (q ∷ [])))))))) ++ rest
     ≡ gap ++ (name ++ (before ++ (61 ∷ (after ++ (q ∷ (body ++ (q ∷ rest)))))))
 parts_again gap name before after q body rest = simp append_assoc

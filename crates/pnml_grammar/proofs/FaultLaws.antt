@@ -13,23 +13,20 @@ use Rattle.pnml_grammar.specs.LegalTexts.{HasLegalTexts}
 use Rattle.pnml_grammar.specs.Runs.{◌>>=◌}
 use Rattle.pnml_grammar.specs.Documents.{DocBytes}
 use Rattle.pnml_grammar.specs.Machine.{State, reason_of, finish, reached, read}
-use Rattle.pnml_grammar.specs.FirstFault.{IsBehind, state_of, Begins, IsFaulty, HasNoToken, HasBadToken, IsFirstFaulty, FirstFault, not_utf8, truncated}
+use Rattle.pnml_grammar.specs.FirstFault.{Begins, IsFaulty, HasNoToken, IsFirstFaulty, FirstFault, not_utf8, truncated}
 use Rattle.pnml_grammar.specs.ReadTo.{IsReadTo}
 use Rattle.pnml_grammar.proofs.LegalLaws.{token_is_legal}
+use Rattle.pnml_grammar.proofs.EachLaws.{each_front}
 use Rattle.pnml_grammar.proofs.PlaceLaws.{token_end_inside, token_goes_on, tokens_ascend, GoesOn, IsLonger, one_goes_on}
 use Rattle.pnml_grammar.proofs.TokenLaws.{one_token_stands}
-use Rattle.pnml_grammar.proofs.ReadToLaws.{reached_front, token_is_refused}
-use Rattle.pnml_grammar.proofs.DocumentLaws.{spells_read, reached_spot, read_spells, begins_reached, reached_begins}
+use Rattle.pnml_grammar.proofs.ReadToLaws.{token_is_refused}
+use Rattle.pnml_grammar.proofs.DocumentLaws.{spells_read, reached_spot, reached_front, read_spells, begins_reached, reached_begins}
 
 -- ---- what was read begins a document
 
 tokens_are_legal : (bytes : List ℕ) (list : List Token) (k e : ℕ) → TokensTo bytes k list e → AllByRecursion HasLegalTexts list
 tokens_are_legal bytes [] k e to = tt
 tokens_are_legal bytes (token ∷ list) k e to = (token_is_legal bytes k token to.0 to.1, tokens_are_legal bytes list to.0 e to.2)
-
-legal_front : (list more : List Token) → AllByRecursion HasLegalTexts (list ++ more) → AllByRecursion HasLegalTexts list
-legal_front [] more legal = tt
-legal_front (token ∷ list) more legal = (legal.0, legal_front list more legal.1)
 
 read_is_legal : (bytes : List ℕ) (k : ℕ) (state : State) (read : IsReadTo bytes k state) → AllByRecursion HasLegalTexts read.list
 read_is_legal bytes k state read = tokens_are_legal bytes read.list (first_place bytes) k read.reaches
@@ -41,7 +38,7 @@ read_begins bytes k state read = reached_begins read.list state (read_is_legal b
 front_begins : (list more : List Token) (state : State) → AllByRecursion HasLegalTexts (list ++ more) → reached (list ++ more) ≡ Some state → Begins list
 front_begins list more state legal leads =
     let front = reached_front list more state leads in
-    reached_begins list front.0 (legal_front list more legal) front.1
+    reached_begins list front.0 (each_front HasLegalTexts list more legal) front.1
 
 one_more_begins : (list other more : List Token) (token : Token) (state : State) → list ≡ other ++ token ∷ more → AllByRecursion HasLegalTexts list → reached list ≡ Some state
     → Begins (other ++ token ∷ [])

@@ -23,3 +23,4 @@ pub mod Machine
 pub mod FirstFault
 pub mod ReadTo
 pub mod LegalTexts
+pub mod CanonicalTexts

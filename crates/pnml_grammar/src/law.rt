@@ -1,6 +1,18 @@
+ghost use Rattle.pnml_grammar.specs.CanonicalTexts.{TellDocumentsApart};
+ghost use Rattle.pnml_grammar.specs.Documents.{SpellOneDocument};
 ghost use Rattle.pnml_grammar.specs.Tokens.{HasOneToken};
 
 /// At an offset at most one token stands, and its end is determined.
 pub fn one_token()
     ensures { HasOneToken }
+{}
+
+/// Bytes spell at most one document.
+pub fn one_document()
+    ensures { SpellOneDocument }
+{}
+
+/// Canonical texts of valued documents are equal exactly where the documents are equal.
+pub fn canonical_text_tells_documents_apart()
+    ensures { TellDocumentsApart }
 {}

@@ -1,7 +1,7 @@
 ghost use Rattle.std.specs.Prelude.{◌≡◌, ◌++◌, IfOk, OnOk, codes};
-ghost use Rattle.net_values.specs.declared.document.Document.{Document as Tree};
 ghost use Rattle.pnml_grammar.specs.Canon.{canon, name_text, items_text, net_text};
-ghost use Rattle.pnml_grammar.specs.Plain.{Plain, PlainBytes};
+ghost use Rattle.pnml_grammar.specs.Documents.{DocBytes};
+ghost use Rattle.pnml_grammar.specs.Valued.{Valued};
 ghost use Rattle.pnml_write.specs.Elements.{behind_attributes};
 
 use crate::markup::Markup;
@@ -16,9 +16,11 @@ const HEAD: &str =
 const NET_TYPE: &str = " type=\"http://www.pnml.org/version-2009/grammar/ptnet\"";
 
 /// The canonical text of a document: one line, without white space between elements, that ends with a
-/// line feed. It can be longer than the bytes that the document was read from.
+/// line feed. It can be longer than the bytes that the document was read from. Where the document is valued,
+/// its text spells it.
 pub fn canonical(alloc: Global, document: &Document) -> Result<Text, NoMemory>
-    ensures { IfOk result (λ text. text ≡ canon document.now) }
+    ensures exact { IfOk result (λ text. text ≡ canon document.now) }
+    ensures spells { IfOk result (λ text. Valued document.now → DocBytes document.now text) }
 {
     let mut markup = Markup::new(alloc);
     markup.push(HEAD)?;
@@ -51,8 +53,3 @@ impl Markup {
         self.push("</net>")
     }
 }
-
-/// The law that a plain document's canonical text is plain bytes of it. It does nothing.
-pub fn plain_text()
-    ensures { (document : Tree) → Plain document → PlainBytes document (canon document) }
-{}

@@ -1,13 +1,19 @@
--- The head, the net and the last end tag with its line feed are the whole text.
-use Rattle.std.proofs.Common.{◌∙◌}
+-- The head, the net and the last end tag with its line feed are the whole text. So it spells the document,
+-- where that is valued.
+use Rattle.std.proofs.Common.{sym, subst, ◌∙◌}
 use Rattle.std.specs.Prelude.{codes}
 use Rattle.pnml_grammar.specs.Canon.{net_text}
+use Rattle.pnml_grammar.specs.Documents.{DocBytes}
+use Rattle.pnml_grammar.proofs.CanonLaws.{canon_is as canon_spells}
 use Rattle.pnml_write.specs.declared.document.TheConstants.{HEAD}
 use Rattle.pnml_write.proofs.Frames.{canon_is, three_pieces}
 use Rattle.pnml_write.proofs.document.canonical.Goals as goal
 
-pub returns : goal.returns
-returns c =
+pub returns-clause-exact : goal.returns-clause-exact
+returns-clause-exact c =
     three_pieces c.new-markup.result c.push.new.self c.push_net.new.self c.push-2.new.self c.into_text.result HEAD.now (net_text c.args.document.now.net) (codes "</pnml>\n")
     c.new-markup.ensures c.in_ok-push.ensures c.in_ok-push_net.ensures c.in_ok-push-2.ensures c.into_text.ensures
     ∙ canon_is c.args.document.now
+
+pub returns-clause-spells : goal.returns-clause-spells
+returns-clause-spells c = λ valued. subst (DocBytes c.args.document.now) (sym (returns-clause-exact c)) (canon_spells c.args.document.now valued)

@@ -1,0 +1,117 @@
+-- What an element may give: one net, name, number or text to the element around it, and none behind another.
+-- Whether it is the first is a test on the tag, and tells whether there are few in the end. By cases on what
+-- the element is and where it stands.
+use Rattle.std.proofs.Common.{◌≡◌, ℕ, ◌+◌, ◌≤◌, refl, sym, subst, List, [], ◌∷◌, length, Option, Some, None, Bool, true, false, IsTrue, nat_le, arith, true≢false}
+use Rattle.std.proofs.lemmas.Bool.{and_parts, leb-true, le-leb}
+use Rattle.pnml_grammar.specs.declared.element.ElementKind.{ElementKind}
+use Rattle.pnml_grammar.specs.declared.element.ElementKind.TheVariants as elements
+use Rattle.pnml_grammar.specs.declared.element.Context.{Context}
+use Rattle.pnml_grammar.specs.declared.element.Context.TheVariants as contexts
+use Rattle.pnml_grammar.specs.declared.token.Attribute.{Attribute}
+use Rattle.pnml_grammar.specs.Elements.{element_named, context_in, context_if_any, context_of_kind, may_hold, may_stand, may_stand_as}
+use Rattle.pnml_grammar.specs.Contents.{Content, nothing, ◌then◌, gives}
+use Rattle.pnml_grammar.specs.Documents.{HasFew, is_complete}
+use Rattle.pnml_grammar.specs.Machine.{has_some, is_second}
+use Rattle.pnml_grammar.proofs.ContentLaws.{then_nothing, few_parts, few_from}
+
+-- ---- lists of one at most
+
+pub has_some_is : {A : Type 0} (xs : List A) → has_some xs ≡ nat_le 1 (length xs)
+has_some_is [] = refl
+has_some_is (x ∷ xs) = sym (le-leb 1 (length (x ∷ xs)) (omega arith))
+
+pub has_none : {A : Type 0} (xs : List A) (n : ℕ) → length xs + n ≤ 1 → 1 ≤ n → has_some xs ≡ false
+has_none [] n few some = refl
+has_none (x ∷ xs) n few some = absurd (omega arith)
+
+pub none_long : {A : Type 0} (xs : List A) → has_some xs ≡ false → length xs ≡ 0
+none_long [] e = refl
+none_long (x ∷ xs) e = absurd (true≢false e)
+
+-- ---- an element in another
+
+abbrev pub is_inside : Context → Bool
+is_inside contexts.Skipped = false
+is_inside _ = true
+
+-- the element may not stand behind what the children before have given; in skipped parts every one may
+abbrev pub second_of : Context → Content → Option ElementKind → Bool
+second_of context content None = false
+second_of context content (Some element) = is_second context content element
+
+abbrev pub second_in : Context → Content → Option ElementKind → Bool
+second_in contexts.Skipped content element = false
+second_in context content element = second_of context content element
+
+second_none : (element : ElementKind) (context : Context) (content inner : Content) (attributes : List Attribute) → is_inside context ≡ true → IsTrue (may_hold context element)
+    → HasFew (content then gives (context_of_kind context element) attributes inner) → IsTrue (is_complete (context_of_kind context element) inner) → is_second context content element ≡ false
+second_none elements.Pnml context content inner attributes inside holds few complete =
+    has_none content.nets (length inner.nets) (few_parts content (gives contexts.Pnml attributes inner) few).nets (leb-true 1 (length inner.nets) complete)
+second_none elements.Net context content inner attributes inside holds few complete =
+    has_none content.nets 1 (few_parts content (gives contexts.Net attributes inner) few).nets (omega arith)
+second_none elements.Name context content inner attributes inside holds few complete =
+    has_none content.names 1 (few_parts content (gives contexts.Name attributes inner) few).names (omega arith)
+second_none elements.InitialMarking context content inner attributes inside holds few complete =
+    has_none content.numbers 1 (few_parts content (gives contexts.InitialMarking attributes inner) few).numbers (omega arith)
+second_none elements.Inscription context content inner attributes inside holds few complete =
+    has_none content.numbers 1 (few_parts content (gives contexts.Inscription attributes inner) few).numbers (omega arith)
+second_none elements.Text contexts.Name content inner attributes inside holds few complete =
+    has_none content.texts 1 (few_parts content (gives contexts.NameText attributes inner) few).texts (omega arith)
+second_none elements.Text contexts.InitialMarking content inner attributes inside holds few complete =
+    has_none content.numerals (length inner.numerals) (few_parts content (gives contexts.MarkingText attributes inner) few).numerals (leb-true 1 (length inner.numerals) complete)
+second_none elements.Text contexts.Inscription content inner attributes inside holds few complete =
+    has_none content.numerals (length inner.numerals) (few_parts content (gives contexts.WeightText attributes inner) few).numerals (leb-true 1 (length inner.numerals) complete)
+second_none elements.Text contexts.Skipped content inner attributes inside holds few complete = absurd (true≢false (sym inside))
+second_none elements.Text context content inner attributes inside holds few complete = absurd (true≢false (sym holds))
+second_none element context content inner attributes inside holds few complete = refl
+
+pub few_same : (content : Content) → HasFew content → HasFew (content then nothing)
+few_same content few = subst HasFew (sym (then_nothing content)) few
+
+few_more : (element : ElementKind) (context : Context) (content inner : Content) (attributes : List Attribute) → HasFew content → HasFew inner → is_second context content element ≡ false
+    → HasFew (content then gives (context_of_kind context element) attributes inner)
+few_more elements.Pnml context content inner attributes few own e =
+    let none = none_long content.nets e in few_from content (gives contexts.Pnml attributes inner) (omega arith)
+few_more elements.Net context content inner attributes few own e =
+    let none = none_long content.nets e in few_from content (gives contexts.Net attributes inner) (omega arith)
+few_more elements.Name context content inner attributes few own e =
+    let none = none_long content.names e in few_from content (gives contexts.Name attributes inner) (omega arith)
+few_more elements.InitialMarking context content inner attributes few own e =
+    let none = none_long content.numbers e in few_from content (gives contexts.InitialMarking attributes inner) (omega arith)
+few_more elements.Inscription context content inner attributes few own e =
+    let none = none_long content.numbers e in few_from content (gives contexts.Inscription attributes inner) (omega arith)
+few_more elements.Text contexts.Name content inner attributes few own e =
+    let none = none_long content.texts e in few_from content (gives contexts.NameText attributes inner) (omega arith)
+few_more elements.Text contexts.InitialMarking content inner attributes few own e =
+    let none = none_long content.numerals e in few_from content (gives contexts.MarkingText attributes inner) (omega arith)
+few_more elements.Text contexts.Inscription content inner attributes few own e =
+    let none = none_long content.numerals e in few_from content (gives contexts.WeightText attributes inner) (omega arith)
+few_more elements.Text context content inner attributes few own e = few_same content few
+few_more elements.Graphics context content inner attributes few own e = few_same content few
+few_more elements.Toolspecific context content inner attributes few own e = few_same content few
+few_more element context content inner attributes few own e = few_from content (gives (context_of_kind context element) attributes inner) (omega arith)
+
+-- ---- an element in any context
+
+is_first_of : (context : Context) (element : Option ElementKind) (content inner : Content) (attributes : List Attribute) → is_inside context ≡ true
+    → IsTrue (may_stand_as context element attributes) → HasFew (content then gives (context_if_any context element) attributes inner) → IsTrue (is_complete (context_if_any context element) inner)
+    → second_of context content element ≡ false
+is_first_of context None content inner attributes inside stands few complete = refl
+is_first_of context (Some element) content inner attributes inside stands few complete =
+    second_none element context content inner attributes inside (and_parts _ (may_hold context element) stands).1 few complete
+
+few_behind_of : (context : Context) (element : Option ElementKind) (content inner : Content) (attributes : List Attribute) → HasFew content → HasFew inner → second_of context content element ≡ false
+    → HasFew (content then gives (context_if_any context element) attributes inner)
+few_behind_of context None content inner attributes few own first = few_same content few
+few_behind_of context (Some element) content inner attributes few own first = few_more element context content inner attributes few own first
+
+pub is_first : (context : Context) (content inner : Content) (name : List ℕ) (attributes : List Attribute) → IsTrue (may_stand context name attributes)
+    → HasFew (content then gives (context_in context (element_named name)) attributes inner) → IsTrue (is_complete (context_in context (element_named name)) inner)
+    → second_in context content (element_named name) ≡ false
+is_first contexts.Skipped content inner name attributes stands few complete = refl
+is_first context content inner name attributes stands few complete = is_first_of context (element_named name) content inner attributes refl stands few complete
+
+pub few_behind : (context : Context) (content inner : Content) (name : List ℕ) (attributes : List Attribute) → HasFew content → HasFew inner
+    → second_in context content (element_named name) ≡ false → HasFew (content then gives (context_in context (element_named name)) attributes inner)
+few_behind contexts.Skipped content inner name attributes few own first = few_same content few
+few_behind context content inner name attributes few own first = few_behind_of context (element_named name) content inner attributes few own first

@@ -1,0 +1,48 @@
+-- Runs of the reading over whole pieces of tokens: what a piece does is said of the state before and the state
+-- behind it, whatever follows. An empty tag does what its start tag and its end tag do.
+use Rattle.std.proofs.Common.{◌≡◌, ℕ, cond, List, [], ◌∷◌, ◌++◌, Some, None, refl, ap, subst, ◌∙◌, append_assoc}
+use Rattle.std.specs.Prelude.{is_none}
+use Rattle.pnml_grammar.specs.declared.token.Attribute.{Attribute}
+use Rattle.pnml_grammar.specs.declared.token.Token.{Token}
+use Rattle.pnml_grammar.specs.declared.token.Token.TheVariants as tokens
+use Rattle.pnml_grammar.specs.Machine.{State, reason_of, next, step, run, open_element, close_element}
+use Rattle.pnml_grammar.specs.Runs.{◌>>=◌}
+use Rattle.pnml_grammar.proofs.RunLaws.{some_is}
+use Rattle.pnml_grammar.proofs.CanonTokens.{element_tokens}
+
+-- the tokens lead from the one state to the other
+pub record Leads (before : State) (list : List Token) (behind : State) : Type 0 where
+  pub whatever : (rest : List Token) → run before (list ++ rest) ≡ run behind rest
+
+pub leads_nowhere : (state : State) → Leads state [] state
+leads_nowhere state = record { whatever = λ rest. refl }
+
+pub leads_on : (before middle behind : State) (list more : List Token) → Leads before list middle → Leads middle more behind → Leads before (list ++ more) behind
+leads_on before middle behind list more first second = record {
+  whatever = λ rest. ap (λ (t : List Token). run before t) (append_assoc list more rest) ∙ first.whatever (more ++ rest) ∙ second.whatever rest;
+}
+
+-- no reason applies to the token
+abbrev pub IsTaken : State → Token → Type 0
+IsTaken state token = reason_of state token ≡ None
+
+step_taken : (state : State) (token : Token) → IsTaken state token → step state token ≡ Some (next state token)
+step_taken state token taken = ap (λ reason. cond (is_none reason) (Some (next state token)) None) taken
+
+run_taken : (state : State) (token : Token) (rest : List Token) → IsTaken state token → run state (token ∷ rest) ≡ run (next state token) rest
+run_taken state token rest taken = ap (λ after. after >>= λ state. run state rest) (step_taken state token taken)
+
+pub leads_token : (state : State) (token : Token) → IsTaken state token → Leads state (token ∷ []) (next state token)
+leads_token state token taken = record { whatever = λ rest. run_taken state token rest taken }
+
+-- a whole element
+pub leads_element : (before inside : State) (name : List ℕ) (attributes : List Attribute) (children : List Token)
+    → IsTaken before (tokens.Start name attributes) → (children ≡ [] → IsTaken before (tokens.Empty name attributes))
+    → Leads (open_element before name attributes) children inside → IsTaken inside (tokens.End name)
+    → Leads before (element_tokens name attributes children) (close_element inside)
+leads_element before inside name attributes [] starts empties runs ends =
+    let same : open_element before name attributes ≡ inside = some_is _ _ (runs.whatever []) in
+    subst (λ state. Leads before (tokens.Empty name attributes ∷ []) (close_element state)) same (leads_token before (tokens.Empty name attributes) (empties refl))
+leads_element before inside name attributes (t ∷ ts) starts empties runs ends =
+    let opened = leads_on before (open_element before name attributes) inside (tokens.Start name attributes ∷ []) (t ∷ ts) (leads_token before (tokens.Start name attributes) starts) runs in
+    leads_on before inside (close_element inside) (tokens.Start name attributes ∷ (t ∷ ts)) (tokens.End name ∷ []) opened (leads_token inside (tokens.End name) ends)

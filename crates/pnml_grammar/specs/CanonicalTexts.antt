@@ -1,0 +1,10 @@
+-- What canonical texts tell.
+use Rattle.std.specs.Prelude.{◌≡◌, ◌↔◌}
+use Rattle.net_values.specs.declared.document.Document.{Document}
+use Rattle.pnml_grammar.specs.Canon.{canon}
+use Rattle.pnml_grammar.specs.Valued.{Valued}
+
+-- canonical texts of valued documents are equal exactly where the documents are equal
+abbrev pub TellDocumentsApart : Type 0
+TellDocumentsApart =
+    (document other : Document) → Valued document → Valued other → (canon document ≡ canon other) ↔ (document ≡ other)
