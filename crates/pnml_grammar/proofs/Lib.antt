@@ -33,6 +33,8 @@ pub mod Endings
 pub mod DocumentLaws
 pub mod ReadToLaws
 pub mod FaultLaws
+pub mod SpotLaws
+pub mod OneFault
 pub mod CanonTokens
 pub mod CanonPieces
 pub mod CanonElements
