@@ -9,22 +9,22 @@ use Rattle.pnml_decode.proofs.document.read_tokens.Goals as goal
 pub returns-in_err-token-clause-fault : goal.returns-in_err-token-clause-fault
 returns-in_err-token-clause-fault c =
     let p = err_from_is_err_and c.from_residual-in_err-token.result c.from_residual-in_err-token.ensures.1 in
-    rw (p.1, p.2) (missing_is_first _ c.args.bytes.now c.loop-token.place (view c.loop-token.reader) c.requires c.loop-token.invariant.0 c.in_err-token.ensures.fault)
+    rw (p.1, p.2) (missing_is_first _ c.args.bytes.now c.tokens.place (view c.tokens.reader) c.requires c.tokens.invariant.0 c.in_err-token.ensures.fault)
 
-pub loop-token-preserved : goal.loop-token-preserved
-loop-token-preserved c =
-    let at = token_at_step c.args.bytes.now c.loop-token.place _ _ _ c.in-Token.is c.in_ok-token.ensures.token in
-    token_goes_on_read c.args.bytes.now c.loop-token.place (view c.loop-token.reader) (view c.take.new.self) c.in-Token.token c.in-Token.end c.loop-token.invariant.0 at c.in-Ok.ensures.ok
+pub tokens-preserved : goal.tokens-preserved
+tokens-preserved c =
+    let at = token_at_step c.args.bytes.now c.tokens.place _ _ _ c.in-Token.is c.in_ok-token.ensures.token in
+    token_goes_on_read c.args.bytes.now c.tokens.place (view c.tokens.reader) (view c.take.new.self) c.in-Token.token c.in-Token.end c.tokens.invariant.0 at c.in-Ok.ensures.ok
 
-pub loop-token-smaller : goal.loop-token-smaller
-loop-token-smaller c =
-    let at = token_at_step c.args.bytes.now c.loop-token.place _ _ _ c.in-Token.is c.in_ok-token.ensures.token in
-    let ahead = token_goes_on c.args.bytes.now c.loop-token.place c.in-Token.token c.in-Token.end at in
-    let inside = token_end_inside c.args.bytes.now c.loop-token.place c.in-Token.token c.in-Token.end at in
+pub tokens-smaller : goal.tokens-smaller
+tokens-smaller c =
+    let at = token_at_step c.args.bytes.now c.tokens.place _ _ _ c.in-Token.is c.in_ok-token.ensures.token in
+    let ahead = token_goes_on c.args.bytes.now c.tokens.place c.in-Token.token c.in-Token.end at in
+    let inside = token_end_inside c.args.bytes.now c.tokens.place c.in-Token.token c.in-Token.end at in
     omega (arith, ahead, inside)
 
 pub returns-in-Err-clause-fault : goal.returns-in-Err-clause-fault
 returns-in-Err-clause-fault c =
-    let at = token_at_step c.args.bytes.now c.loop-token.place _ _ _ c.in-Token.is c.in_ok-token.ensures.token in
+    let at = token_at_step c.args.bytes.now c.tokens.place _ _ _ c.in-Token.is c.in_ok-token.ensures.token in
     rw c.refusal_at.ensures
-    (stop_is_first c.in-Err.stop c.args.bytes.now c.loop-token.place (view c.loop-token.reader) c.in-Token.token c.in-Token.end c.requires c.loop-token.invariant.0 at c.in-Err.ensures.because)
+    (stop_is_first c.in-Err.stop c.args.bytes.now c.tokens.place (view c.tokens.reader) c.in-Token.token c.in-Token.end c.requires c.tokens.invariant.0 at c.in-Err.ensures.because)
