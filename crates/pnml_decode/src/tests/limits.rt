@@ -169,24 +169,25 @@ fn fault_of_value(
     row: &Value,
     value: &[u8],
 ) -> Result<Option<DocFault>, AllocError> {
-    let text = joined(
-        alloc,
-        &[OPENING, row.front, row.before, value, row.after, CLOSING],
-    )?;
+    let mut text = joined(alloc, OPENING, row.front)?;
+    text.extend_from_slice(row.before)?;
+    text.extend_from_slice(value)?;
+    text.extend_from_slice(row.after)?;
+    text.extend_from_slice(CLOSING)?;
     Ok(fault(alloc, text.as_slice()))
 }
 
 /// A value of the limit's bytes is taken, and so is one that is a byte shorter; a longer one is refused.
 fn check_value(rt: &impl Abort, alloc: Global, row: &Value) -> Result<(), AllocError> {
-    let shorter = repeated(alloc, b"x", row.limit.saturating_sub(1))?;
-    assert_eq!(rt; fault_of_value(alloc, row, shorter.as_slice())?, None);
-    let longest = joined(alloc, &[b"x", shorter.as_slice()])?;
-    assert_eq!(rt; fault_of_value(alloc, row, longest.as_slice())?, None);
-    let longer = joined(alloc, &[b"x", longest.as_slice()])?;
-    let front = joined(alloc, &[OPENING, row.front])?;
+    let mut value = repeated(alloc, b"x", row.limit.saturating_sub(1))?;
+    assert_eq!(rt; fault_of_value(alloc, row, value.as_slice())?, None);
+    value.push(b'x')?;
+    assert_eq!(rt; fault_of_value(alloc, row, value.as_slice())?, None);
+    value.push(b'x')?;
+    let front = joined(alloc, OPENING, row.front)?;
     let refused = DocFault::At(front.len() as u64, row.reason);
     assert_eq!(rt;
-        fault_of_value(alloc, row, longer.as_slice())?,
+        fault_of_value(alloc, row, value.as_slice())?,
         Some(refused)
     );
     Ok(())
@@ -204,10 +205,12 @@ fn values_are_bounded(rt: HostRuntime) -> Result<(), Fail> {
 fn check_count(rt: &impl Abort, alloc: Global, count: &Count) -> Result<(), AllocError> {
     let pieces = repeated(alloc, count.piece, count.limit)?;
     let ends = repeated(alloc, count.after, count.limit)?;
-    let front = joined(alloc, &[OPENING, count.before, pieces.as_slice()])?;
-    let whole = joined(alloc, &[front.as_slice(), ends.as_slice(), CLOSING])?;
+    let mut front = joined(alloc, OPENING, count.before)?;
+    front.extend_from_slice(pieces.as_slice())?;
+    let mut whole = joined(alloc, front.as_slice(), ends.as_slice())?;
+    whole.extend_from_slice(CLOSING)?;
     assert_eq!(rt; fault(alloc, whole.as_slice()), None);
-    let more = joined(alloc, &[front.as_slice(), count.next])?;
+    let more = joined(alloc, front.as_slice(), count.next)?;
     let refused = DocFault::At(front.len() as u64, count.reason);
     assert_eq!(rt; fault(alloc, more.as_slice()), Some(refused));
     Ok(())
