@@ -138,3 +138,18 @@ fn rows_and_sets_are_sorted_and_cut(rt: HostRuntime) -> Result<(), Fail> {
     assert!(rt; least.is_subset(&least) && !least.is_subset(most) && !most.is_subset(&least));
     Ok(())
 }
+
+#[test]
+fn lists_are_joined_in_their_order(rt: HostRuntime) -> Result<(), Fail> {
+    let alloc = rt.alloc();
+    let mut list = List::new(alloc);
+    list.push(3)?;
+    let mut more = List::new(alloc);
+    more.push(1)?;
+    more.push(2)?;
+    list.append(more)?;
+    assert_eq!(rt; list.as_slice(), [3, 1, 2].as_slice());
+    assert_eq!(rt; list.into_first(), Some(3));
+    assert_eq!(rt; List::<u8>::new(alloc).into_first(), None);
+    Ok(())
+}

@@ -1,8 +1,8 @@
 -- The reader as a state of the machine: the open elements from the inside out.
-use Rattle.std.specs.Prelude.{List, map, reverse}
-use Rattle.pnml_grammar.specs.Contents.{Content as Given}
+use Rattle.std.specs.Prelude.{◌≡◌, List, map, reverse}
+use Rattle.pnml_grammar.specs.Contents.{Content as Given, ◌then◌, gives}
 use Rattle.pnml_grammar.specs.Counts.{Counts as Counted}
-use Rattle.pnml_grammar.specs.Machine.{Frame, State}
+use Rattle.pnml_grammar.specs.Machine.{Frame, State, receive}
 use Rattle.pnml_decode.specs.declared.content.Content.{Content}
 use Rattle.pnml_decode.specs.declared.counts.Counts.{Counts}
 use Rattle.pnml_decode.specs.declared.open.Open.{Open}
@@ -18,6 +18,10 @@ given c = record {
   bytes = c.bytes;
   numerals = c.numerals;
 }
+
+-- the content has this more
+abbrev pub Gains : Content → Content → Given → Type 0
+Gains old new more = given new ≡ (given old then more)
 
 abbrev pub counted : Counts → Counted
 counted c = record {
@@ -35,6 +39,14 @@ frame element = record {
   attributes = element.attributes;
   content = given element.content;
 }
+
+-- the element has received this
+abbrev pub Receives : Open → Open → Given → Type 0
+Receives old new more = frame new ≡ receive more (frame old)
+
+-- what a closed element gives to the one around it
+abbrev pub given_by : Open → Given
+given_by closed = gives closed.context closed.attributes (given closed.content)
 
 -- the elements around the innermost one; the outermost was opened first
 abbrev pub frames : List Open → List Frame

@@ -91,8 +91,8 @@ fn fits_as_if_any(element: ElementKind, attribute: Option<AttributeKind>, value:
     }
 }
 
-/// A value of `id`, `source`, `target` or `ref`: 1 to 4,096 bytes, none of them a control character of
-/// ASCII or a space.
+/// A value of `id`, `source`, `target` or `ref`: 1 to 4,096 bytes, none of them a control character
+/// of ASCII or a space.
 #[tactic(auto, unfolding(pnml_grammar::specs::Elements::is_id))]
 fn is_id(value: &[u8]) -> bool
     ensures { result ≡ is_id value.now }

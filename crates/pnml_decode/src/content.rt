@@ -1,16 +1,16 @@
-ghost use Rattle.std.specs.Prelude.{◌≡◌, ◌∷◌, ◌++◌, [], OnOk, Some};
+ghost use Rattle.std.specs.Prelude.{◌≡◌, ◌∷◌, ◌++◌, [], OnOk};
 ghost use Rattle.net_values.specs.declared.document.Item.TheVariants.{Page, PageEnd};
-ghost use Rattle.pnml_grammar.specs.Contents.{nothing, ◌then◌, one_item, gives};
+ghost use Rattle.pnml_grammar.specs.Contents.{nothing, one_item};
 ghost use Rattle.pnml_grammar.specs.Machine.{has_some, is_second};
-ghost use Rattle.pnml_decode.specs.Views.{given};
+ghost use Rattle.pnml_decode.specs.Views.{given, Gains};
 
 use net_values::{Item, Items, List, NetTree, NoMemory, PageNode, Text};
 use pnml_grammar::{Context, ElementKind};
 use std::alloc::Global;
 
-/// What the whole children of an open element have given so far: nets; the items of a net; names and
-/// numbers, each with a value where it has a text; the texts of a name; the bytes of such a text so far;
-/// and the numbers of a number's text.
+/// What the whole children of an open element have given so far: nets; the items of a net; names
+/// and numbers, each with a value where it has a text; the texts of a name; the bytes of such a text
+/// so far; and the numbers of a number's text.
 #[derive(Drop)]
 pub(crate) struct Content {
     pub(crate) nets: List<NetTree>,
@@ -38,7 +38,8 @@ impl Content {
         }
     }
 
-    /// Whether an element of the kind would be the second net, name, number or text, or the second root.
+    /// Whether an element of the kind would be the second net, name, number or text, or the second
+    /// root.
     pub(crate) fn has(&self, context: Context, element: ElementKind) -> bool
         ensures { result ≡ is_second context (given self.now) element }
     {
@@ -54,29 +55,29 @@ impl Content {
 
     #[tactic(auto, using(crate::proofs::Giving::gave_nets))]
     pub(crate) fn give_nets(&mut self, nets: List<NetTree>) -> Result<(), NoMemory>
-        ensures { OnOk result (given self.new ≡ (given self.old then record nothing { nets = nets })) }
+        ensures { OnOk result (Gains self.old self.new (record nothing { nets = nets })) }
     {
         self.nets.append(nets)
     }
 
     #[tactic(auto, using(crate::proofs::Giving::gave_nets))]
     pub(crate) fn give_net(&mut self, net: NetTree) -> Result<(), NoMemory>
-        ensures { OnOk result (given self.new ≡ (given self.old then record nothing { nets = net ∷ [] })) }
+        ensures { OnOk result (Gains self.old self.new (record nothing { nets = net ∷ [] })) }
     {
         self.nets.push(net)
     }
 
     #[tactic(auto, using(crate::proofs::Giving::gave_items))]
     pub(crate) fn give_item(&mut self, item: Item) -> Result<(), NoMemory>
-        ensures { OnOk result (given self.new ≡ (given self.old then one_item item)) }
+        ensures { OnOk result (Gains self.old self.new (one_item item)) }
     {
         self.items.push(item)
     }
 
     #[tactic(auto, using(crate::proofs::Giving::gave_page))]
     pub(crate) fn give_page(&mut self, page: PageNode, items: Items) -> Result<(), NoMemory>
-        ensures { OnOk result (given self.new ≡
-            (given self.old then record nothing { items = (Page page ∷ items) ++ PageEnd ∷ [] })) }
+        ensures { OnOk result (Gains self.old self.new
+            (record nothing { items = (Page page ∷ items) ++ PageEnd ∷ [] })) }
     {
         self.items.push(Item::Page(page))?;
         self.items.append(items)?;
@@ -85,42 +86,42 @@ impl Content {
 
     #[tactic(auto, using(crate::proofs::Giving::gave_names))]
     pub(crate) fn give_name(&mut self, name: Option<Text>) -> Result<(), NoMemory>
-        ensures { OnOk result (given self.new ≡ (given self.old then record nothing { names = name ∷ [] })) }
+        ensures { OnOk result (Gains self.old self.new (record nothing { names = name ∷ [] })) }
     {
         self.names.push(name)
     }
 
     #[tactic(auto, using(crate::proofs::Giving::gave_numbers))]
     pub(crate) fn give_number(&mut self, number: Option<u64>) -> Result<(), NoMemory>
-        ensures { OnOk result (given self.new ≡ (given self.old then record nothing { numbers = number ∷ [] })) }
+        ensures { OnOk result (Gains self.old self.new (record nothing { numbers = number ∷ [] })) }
     {
         self.numbers.push(number)
     }
 
     #[tactic(auto, using(crate::proofs::Giving::gave_texts))]
     pub(crate) fn give_text(&mut self, text: Text) -> Result<(), NoMemory>
-        ensures { OnOk result (given self.new ≡ (given self.old then record nothing { texts = text ∷ [] })) }
+        ensures { OnOk result (Gains self.old self.new (record nothing { texts = text ∷ [] })) }
     {
         self.texts.push(text)
     }
 
     #[tactic(auto, using(crate::proofs::Giving::gave_bytes))]
     pub(crate) fn give_bytes(&mut self, bytes: Text) -> Result<(), NoMemory>
-        ensures { OnOk result (given self.new ≡ (given self.old then record nothing { bytes = bytes })) }
+        ensures { OnOk result (Gains self.old self.new (record nothing { bytes = bytes })) }
     {
         append(&mut self.bytes, bytes)
     }
 
     #[tactic(auto, using(crate::proofs::Giving::gave_numerals))]
     pub(crate) fn give_numerals(&mut self, numerals: List<u64>) -> Result<(), NoMemory>
-        ensures { OnOk result (given self.new ≡ (given self.old then record nothing { numerals = numerals })) }
+        ensures { OnOk result (Gains self.old self.new (record nothing { numerals = numerals })) }
     {
         self.numerals.append(numerals)
     }
 
     #[tactic(auto, using(crate::proofs::Giving::gave_numerals))]
     pub(crate) fn give_numeral(&mut self, numeral: u64) -> Result<(), NoMemory>
-        ensures { OnOk result (given self.new ≡ (given self.old then record nothing { numerals = numeral ∷ [] })) }
+        ensures { OnOk result (Gains self.old self.new (record nothing { numerals = numeral ∷ [] })) }
     {
         self.numerals.push(numeral)
     }

@@ -1,8 +1,19 @@
 ghost use Rattle.std.specs.Prelude.{◌≡◌};
-ghost use Rattle.pnml_grammar.specs.Elements.{is_skipped, context_in, context_of_kind, context_of_text, may_hold, is_name, is_node_or_page, needs};
+ghost use Rattle.pnml_grammar.specs.Elements.{is_skipped, context_in, context_of_kind, context_of_text, may_hold, needs};
 ghost use Rattle.pnml_grammar.specs.Machine.{is_pnml, is_number_text};
 
 use pnml_grammar::{AttributeKind, Context, ElementKind};
+
+/// Whether the row of one variant has another one: each row lists the variants that it is for, and
+/// those that it has.
+macro_rules! table {
+    ($of:ident::$one:ident, $in:ident::$other:ident; $($($row:ident)|+ => $($entry:ident)|+;)+) => {
+        match $one {
+            $($($of::$row)|+ => matches!($other, $($in::$entry)|+),)+
+            _ => false,
+        }
+    };
+}
 
 /// A part that is skipped, which may stand in every element but `text`.
 pub(crate) fn is_skipped(element: ElementKind) -> bool
@@ -67,73 +78,34 @@ fn context_of_text(context: Context) -> Context
     }
 }
 
-/// Which elements may stand in which at all.
+/// Which elements may stand in which at all, by this table.
 pub(crate) fn may_hold(context: Context, element: ElementKind) -> bool
     ensures { result ≡ may_hold context element }
 {
-    match context {
-        Context::Document => is_pnml(element),
-        Context::Pnml => matches!(element, ElementKind::Net) || is_skipped(element),
-        Context::Net | Context::Page => {
-            is_name(element) || is_node_or_page(element) || is_skipped(element)
-        }
-        Context::Place => {
-            matches!(element, ElementKind::InitialMarking)
-                || is_name(element)
-                || is_skipped(element)
-        }
-        Context::Arc => {
-            matches!(element, ElementKind::Inscription) || is_name(element) || is_skipped(element)
-        }
-        Context::Transition | Context::ReferencePlace | Context::ReferenceTransition => {
-            is_name(element) || is_skipped(element)
-        }
-        Context::Name | Context::InitialMarking | Context::Inscription => {
-            matches!(element, ElementKind::Text) || is_skipped(element)
-        }
-        Context::NameText | Context::MarkingText | Context::WeightText => false,
-        Context::Skipped => true,
-    }
-}
-
-fn is_name(element: ElementKind) -> bool
-    ensures { result ≡ is_name element }
-{
-    matches!(element, ElementKind::Name)
-}
-
-/// The nodes of a net, and its pages.
-fn is_node_or_page(element: ElementKind) -> bool
-    ensures { result ≡ is_node_or_page element }
-{
-    matches!(
-        element,
-        ElementKind::Page
-            | ElementKind::Place
-            | ElementKind::Transition
-            | ElementKind::Arc
-            | ElementKind::ReferencePlace
-            | ElementKind::ReferenceTransition
+    table!(Context::context, ElementKind::element;
+        Document => Pnml;
+        Pnml => Net | Graphics | Toolspecific;
+        Net | Page => Name | Page | Place | Transition | Arc | ReferencePlace | ReferenceTransition
+            | Graphics | Toolspecific;
+        Place => Name | InitialMarking | Graphics | Toolspecific;
+        Arc => Name | Inscription | Graphics | Toolspecific;
+        Transition | ReferencePlace | ReferenceTransition => Name | Graphics | Toolspecific;
+        Name | InitialMarking | Inscription => Text | Graphics | Toolspecific;
+        Skipped => Pnml | Net | Page | Place | Transition | Arc | ReferencePlace
+            | ReferenceTransition | Name | InitialMarking | Inscription | Text | Graphics
+            | Toolspecific;
     )
 }
 
-/// The attributes that an element needs.
+/// The attributes that an element needs, by this table.
 pub(crate) fn needs(element: ElementKind, attribute: AttributeKind) -> bool
     ensures { result ≡ needs element attribute }
 {
-    match element {
-        ElementKind::Pnml => matches!(attribute, AttributeKind::Xmlns),
-        ElementKind::Net => matches!(attribute, AttributeKind::Id | AttributeKind::NetType),
-        ElementKind::Page | ElementKind::Place | ElementKind::Transition => {
-            matches!(attribute, AttributeKind::Id)
-        }
-        ElementKind::Arc => matches!(
-            attribute,
-            AttributeKind::Id | AttributeKind::Source | AttributeKind::Target
-        ),
-        ElementKind::ReferencePlace | ElementKind::ReferenceTransition => {
-            matches!(attribute, AttributeKind::Id | AttributeKind::Ref)
-        }
-        _ => false,
-    }
+    table!(ElementKind::element, AttributeKind::attribute;
+        Pnml => Xmlns;
+        Net => Id | NetType;
+        Page | Place | Transition => Id;
+        Arc => Id | Source | Target;
+        ReferencePlace | ReferenceTransition => Id | Ref;
+    )
 }

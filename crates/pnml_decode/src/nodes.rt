@@ -9,20 +9,31 @@ use net_values::{
 use pnml_grammar::Attributes;
 use std::alloc::Global;
 
+/// What is made of a closed element: its id, its name, and what else it has.
+macro_rules! made {
+    ($node:ident of $attributes:ident, $names:ident by $alloc:ident $(; $field:ident: $value:expr)*) => {
+        Ok($node {
+            id: value_in($alloc, b"id", $attributes)?,
+            name: label($names),
+            $($field: $value,)*
+        })
+    };
+}
+
 /// The net of a closed element.
 pub(crate) fn net(
     alloc: Global,
     attributes: &Attributes,
     content: Content,
 ) -> Result<NetTree, NoMemory>
-    ensures { IfOk result (λ net. net ≡ record { id = id_in attributes.now; name = first_value content.names; items = content.items }) }
+    ensures { IfOk result (λ net. net ≡ record {
+      id = id_in attributes.now;
+      name = first_value content.names;
+      items = content.items;
+    }) }
 {
     let Content { names, items, .. } = content;
-    Ok(NetTree {
-        id: id(alloc, attributes)?,
-        name: label(names),
-        items,
-    })
+    made!(NetTree of attributes, names by alloc; items: items)
 }
 
 /// The start of the page of a closed element.
@@ -31,12 +42,12 @@ pub(crate) fn page(
     attributes: &Attributes,
     names: List<Option<Text>>,
 ) -> Result<PageNode, NoMemory>
-    ensures { IfOk result (λ page. page ≡ record { id = id_in attributes.now; name = first_value names }) }
+    ensures { IfOk result (λ page. page ≡ record {
+      id = id_in attributes.now;
+      name = first_value names;
+    }) }
 {
-    Ok(PageNode {
-        id: id(alloc, attributes)?,
-        name: label(names),
-    })
+    made!(PageNode of attributes, names by alloc)
 }
 
 pub(crate) fn place(
@@ -51,11 +62,7 @@ pub(crate) fn place(
     }) }
 {
     let Content { names, numbers, .. } = content;
-    Ok(PlaceNode {
-        id: id(alloc, attributes)?,
-        name: label(names),
-        initial: label(numbers).unwrap_or(0),
-    })
+    made!(PlaceNode of attributes, names by alloc; initial: label(numbers).unwrap_or(0))
 }
 
 pub(crate) fn transition(
@@ -63,12 +70,12 @@ pub(crate) fn transition(
     attributes: &Attributes,
     names: List<Option<Text>>,
 ) -> Result<TransitionNode, NoMemory>
-    ensures { IfOk result (λ transition. transition ≡ record { id = id_in attributes.now; name = first_value names }) }
+    ensures { IfOk result (λ transition. transition ≡ record {
+      id = id_in attributes.now;
+      name = first_value names;
+    }) }
 {
-    Ok(TransitionNode {
-        id: id(alloc, attributes)?,
-        name: label(names),
-    })
+    made!(TransitionNode of attributes, names by alloc)
 }
 
 pub(crate) fn arc(
@@ -85,13 +92,10 @@ pub(crate) fn arc(
     }) }
 {
     let Content { names, numbers, .. } = content;
-    Ok(ArcNode {
-        id: id(alloc, attributes)?,
-        name: label(names),
-        source: value_in(alloc, b"source", attributes)?,
-        target: value_in(alloc, b"target", attributes)?,
-        weight: label(numbers).unwrap_or(1),
-    })
+    made!(ArcNode of attributes, names by alloc;
+        source: value_in(alloc, b"source", attributes)?;
+        target: value_in(alloc, b"target", attributes)?;
+        weight: label(numbers).unwrap_or(1))
 }
 
 /// A reference node of either kind.
@@ -106,17 +110,7 @@ pub(crate) fn reference(
       target = value_in (codes "ref") attributes.now;
     }) }
 {
-    Ok(RefNode {
-        id: id(alloc, attributes)?,
-        name: label(names),
-        target: value_in(alloc, b"ref", attributes)?,
-    })
-}
-
-fn id(alloc: Global, attributes: &Attributes) -> Result<Text, NoMemory>
-    ensures { IfOk result (λ text. text ≡ id_in attributes.now) }
-{
-    value_in(alloc, b"id", attributes)
+    made!(RefNode of attributes, names by alloc; target: value_in(alloc, b"ref", attributes)?)
 }
 
 /// The value of an attribute that is there.

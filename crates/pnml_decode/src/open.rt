@@ -1,7 +1,7 @@
-ghost use Rattle.std.specs.Prelude.{◌≡◌, [], OnOk};
-ghost use Rattle.pnml_grammar.specs.Contents.{◌then◌, gives, nothing, characters_content, cdata_content};
-ghost use Rattle.pnml_grammar.specs.Machine.{outermost, receive};
-ghost use Rattle.pnml_decode.specs.Views.{given, frame};
+ghost use Rattle.std.specs.Prelude.{◌≡◌, OnOk};
+ghost use Rattle.pnml_grammar.specs.Contents.{characters_content, cdata_content};
+ghost use Rattle.pnml_grammar.specs.Machine.{outermost};
+ghost use Rattle.pnml_decode.specs.Views.{Gains, Receives, frame, given_by};
 
 use crate::content::Content;
 use crate::nodes;
@@ -34,7 +34,7 @@ impl Open {
 
     /// Takes characters: bytes of a name, or a number; anywhere else they are white space.
     pub(crate) fn take_characters(&mut self, value: Text) -> Result<(), NoMemory>
-        ensures { OnOk result (frame self.new ≡ receive (characters_content self.old.context value) (frame self.old)) }
+        ensures { OnOk result (Receives self.old self.new (characters_content self.old.context value)) }
     {
         match self.context {
             Context::NameText => self.content.give_bytes(value),
@@ -50,7 +50,7 @@ impl Open {
 
     /// Takes what a section of literal characters says, bytes of a name.
     pub(crate) fn take_cdata(&mut self, value: Text) -> Result<(), NoMemory>
-        ensures { OnOk result (frame self.new ≡ receive (cdata_content self.old.context value) (frame self.old)) }
+        ensures { OnOk result (Receives self.old self.new (cdata_content self.old.context value)) }
     {
         match self.context {
             Context::NameText => self.content.give_bytes(value),
@@ -60,7 +60,7 @@ impl Open {
 
     /// Takes an element that is closed: what its children gave is made into what it gives.
     pub(crate) fn take_element(&mut self, alloc: Global, closed: Open) -> Result<(), NoMemory>
-        ensures { OnOk result (frame self.new ≡ receive (gives closed.context closed.attributes (given closed.content)) (frame self.old)) }
+        ensures { OnOk result (Receives self.old self.new (given_by closed)) }
     {
         give(alloc, &mut self.content, closed)
     }
@@ -68,7 +68,7 @@ impl Open {
 
 /// Gives the content what the closed element gives.
 fn give(alloc: Global, outer: &mut Content, closed: Open) -> Result<(), NoMemory>
-    ensures { OnOk result (given outer.new ≡ (given outer.old then gives closed.context closed.attributes (given closed.content))) }
+    ensures { OnOk result (Gains outer.old outer.new (given_by closed)) }
 {
     let Open {
         context,

@@ -14,8 +14,8 @@ use net_values::{Document, List, NetTree, NoMemory, Text};
 use pnml_grammar::{Attributes, ElementKind, Token};
 use std::alloc::Global;
 
-/// Reads a document token by token: the innermost open element, those around it from the outside in, and
-/// how many counted elements have stood.
+/// Reads a document token by token: the innermost open element, those around it from the outside
+/// in, and how many counted elements have stood.
 #[derive(Drop)]
 pub(crate) struct Reader {
     pub(crate) top: Open,
@@ -37,8 +37,11 @@ impl Reader {
 
     /// Takes the next token, or says the first reason why it can't stand there.
     pub(crate) fn take(&mut self, token: Token) -> Result<(), Stop>
-        ensures ok { OnOk result ((reason_of (view self.old) token ≡ None) × (view self.new ≡ next (view self.old) token)) }
-        ensures because { IfErr result (λ stop. IfBecause stop (λ reason. reason_of (view self.old) token ≡ Some reason)) }
+        ensures ok { OnOk result (
+            (reason_of (view self.old) token ≡ None)
+            × (view self.new ≡ next (view self.old) token)) }
+        ensures because { IfErr result (λ stop. IfBecause stop (λ reason.
+            reason_of (view self.old) token ≡ Some reason)) }
     {
         match self.reason_of(&token) {
             Some(reason) => Err(Stop::Because(reason)),

@@ -12,6 +12,6 @@ mod token;
 
 pub use element::{AttributeKind, Context, ElementKind};
 pub use law::{canonical_text_tells_documents_apart, one_answer, one_document, one_token};
-pub use names::{ATTRIBUTES, ELEMENTS, Names, find_in};
+pub use names::{ATTRIBUTES, ELEMENTS, Names, find, find_in};
 pub use reason::{Counted, Reason};
 pub use token::{Attribute, Attributes, Token};

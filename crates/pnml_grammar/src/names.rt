@@ -30,7 +30,14 @@ pub const ATTRIBUTES: Names<6> = Names {
     names: [b"id", b"type", b"source", b"target", b"ref", b"xmlns"],
 };
 
-/// The lowest index of the name, where it is there.
+/// The lowest index of the name in the table, `None` exactly where it isn't there.
+pub fn find<const N: usize>(table: &Names<N>, name: &[u8]) -> Option<usize>
+    ensures { result ≡ position (λ other. bytes_eq other.now name.now) table.now.names }
+{
+    find_in(&table.names, name)
+}
+
+/// The same of the names alone.
 pub fn find_in(names: &[&'static [u8]], name: &[u8]) -> Option<usize>
     ensures { result ≡ position (λ other. bytes_eq other.now name.now) names.now }
 {
