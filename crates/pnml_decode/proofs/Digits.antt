@@ -1,6 +1,6 @@
 -- Digits are ASCII without a sign in front, so that they parse exactly to the number that they write.
-use Rattle.std.proofs.Common.{◌≡◌, ℕ, suc, ◌<◌, ◌≤◌, ◌^◌, Bool, true, false, cond, List, [], ◌∷◌, Option, Some, None, Result, Ok, Err, length, refl, ap, subst, sym, arith}
-use Rattle.std.specs.Prelude.{◌==◌, nat_le, nat_lt, nat_eq}
+use Rattle.std.proofs.Common.{◌≡◌, ℕ, suc, ◌<◌, ◌^◌, Bool, true, false, cond, List, [], ◌∷◌, Some, None, Result, Ok, Err, length, refl, ap, subst, arith}
+use Rattle.std.specs.Prelude.{◌==◌, nat_le, nat_lt}
 use Rattle.std.specs.Result.{result_ok, OkIff}
 use Rattle.std.specs.Char.{digit_value}
 use Rattle.std.specs.Str.Parse.{AllDigits, IsNumeral, ParsesUnsigned, digits_value, without_leading_plus}

@@ -1,8 +1,7 @@
 -- The loop keeps what was read up to its offset. Where it stops the first fault is named: what was read
 -- makes the place at which it stops the first that is faulty.
-use Rattle.std.proofs.Common.{◌≡◌, ℕ, ◌<◌, ◌≤◌, List, Option, Some, None, refl, sym, ap, subst, ◌∙◌, arith, length}
+use Rattle.std.proofs.Common.{◌≡◌, ℕ, ◌<◌, ◌≤◌, List, Some, None, sym, ap, subst, ◌∙◌, arith, length}
 use Rattle.std.specs.Prelude.{IsUtf8}
-use Rattle.pnml_grammar.specs.declared.reason.Reason.{Reason}
 use Rattle.pnml_grammar.specs.declared.token.Token.{Token}
 use Rattle.pnml_grammar.specs.declared.token.Token.TheVariants as tokens
 use Rattle.pnml_grammar.specs.Tokens.{TokenAt, first_place}

@@ -53,16 +53,6 @@ fn read_tokens(alloc: Global, bytes: &[u8]) -> Result<Reader, DocFault>
     Ok(reader)
 }
 
-/// What is answered where the reading stops at the offset.
-fn refusal_at(place: usize, stop: Stop) -> DocFault
-    ensures { result ≡ the_refusal place stop }
-{
-    match stop {
-        Stop::NoMemory => DocFault::NoMemory,
-        Stop::Because(reason) => DocFault::At(place as u64, reason),
-    }
-}
-
 /// The offset of the first token that is no declaration in front.
 fn behind_declaration(alloc: Global, bytes: &[u8]) -> Result<usize, DocFault>
     requires { IsUtf8 bytes.now }
@@ -78,16 +68,6 @@ fn behind_declaration(alloc: Global, bytes: &[u8]) -> Result<usize, DocFault>
     }
 }
 
-/// The end of the declaration that stands there, if one does.
-fn end_of_declaration(step: &Step) -> Option<usize>
-    ensures { result ≡ declaration_end step.now }
-{
-    match step {
-        Step::Token(Token::Declaration, end) => Some(*end),
-        _ => None,
-    }
-}
-
 /// The offset behind the byte order mark, or of the front where there is none.
 fn behind_mark(bytes: &[u8]) -> usize
     ensures place { result ≡ first_place bytes.now }
@@ -97,6 +77,16 @@ fn behind_mark(bytes: &[u8]) -> usize
         3
     } else {
         0
+    }
+}
+
+/// The end of the declaration that stands there, if one does.
+fn end_of_declaration(step: &Step) -> Option<usize>
+    ensures { result ≡ declaration_end step.now }
+{
+    match step {
+        Step::Token(Token::Declaration, end) => Some(*end),
+        _ => None,
     }
 }
 
@@ -125,5 +115,15 @@ fn reason_without_token(rest: &[u8]) -> Reason
         Reason::Doctype
     } else {
         Reason::BadToken
+    }
+}
+
+/// What is answered where the reading stops at the offset.
+fn refusal_at(place: usize, stop: Stop) -> DocFault
+    ensures { result ≡ the_refusal place stop }
+{
+    match stop {
+        Stop::NoMemory => DocFault::NoMemory,
+        Stop::Because(reason) => DocFault::At(place as u64, reason),
     }
 }

@@ -1,6 +1,6 @@
 -- Reading token by token finds just the documents: the tokens of a document are read and give it, tokens that are
 -- read to the end spell what they give, and what is read so far is what begins a document.
-use Rattle.std.proofs.Common.{◌≡◌, ℕ, ◌≤◌, refl, sym, ap, ap₂, subst, ◌∙◌, List, [], ◌∷◌, ◌++◌, append_assoc, append-nil, length, Option, Some, None, Bool, true, false, IsTrue, arith, true≢false, inl, inr}
+use Rattle.std.proofs.Common.{◌≡◌, ◌≤◌, refl, sym, ap, ap₂, subst, ◌∙◌, List, [], ◌∷◌, ◌++◌, append_assoc, append-nil, length, Option, Some, None, Bool, true, false, IsTrue, arith, true≢false}
 use Rattle.std.specs.List.{AllByRecursion}
 use Rattle.std.proofs.lemmas.Bool.{and_parts}
 use Rattle.net_values.specs.declared.document.Document.{Document}
@@ -16,12 +16,12 @@ use Rattle.pnml_grammar.specs.Trees.{Node, element, empty_element, comment, inst
 use Rattle.pnml_grammar.specs.Contents.{Content, nothing, ◌then◌, gives, node_content, nodes_content}
 use Rattle.pnml_grammar.specs.Counts.{nodes_counts}
 use Rattle.pnml_grammar.specs.Documents.{depth_limit, HasFew, IsChild, EachChild, opening, Spells, SpellOneDocument}
-use Rattle.pnml_grammar.specs.Tokens.{TokensTo, TokensOf, first_place}
+use Rattle.pnml_grammar.specs.Tokens.{first_place}
 use Rattle.pnml_grammar.specs.LegalTexts.{HasLegalTexts}
 use Rattle.pnml_grammar.specs.Machine.{State, start, run, next, behind_declaration, the_one, finish, reached, read}
 use Rattle.pnml_grammar.specs.FirstFault.{Opened, Spot, IsBehind, Begins, opened_tokens, state_of}
 use Rattle.pnml_grammar.proofs.RunLaws.{bind_some, some_is}
-use Rattle.pnml_grammar.proofs.PlaceLaws.{token_goes_on, token_end_inside, one_goes_on}
+use Rattle.pnml_grammar.proofs.PlaceLaws.{one_list}
 use Rattle.pnml_grammar.proofs.EachLaws.{each_append, each_back}
 use Rattle.pnml_grammar.proofs.ValuedLaws.{valued_of}
 use Rattle.pnml_grammar.proofs.Spots.{IsSound, step_found, reached_stands}
@@ -150,7 +150,7 @@ run_front (token ∷ xs) ys state end e =
     let more = run_front xs ys (next state token) end found.1 in
     (more.0, step_on state token xs found.0 ∙ more.1)
 
-reached_front : (list rest : List Token) (end : State) → reached (list ++ rest) ≡ Some end → (state : State) × (reached list ≡ Some state)
+pub reached_front : (list rest : List Token) (end : State) → reached (list ++ rest) ≡ Some end → (state : State) × (reached list ≡ Some state)
 unfolding reached
 reached_front [] rest end e = (start, refl)
 reached_front (tokens.Declaration ∷ list) rest end e = run_front list rest start end e
@@ -182,20 +182,7 @@ reached_begins list state legal e =
 
 -- ---- bytes spell at most one document
 
-nothing_behind : (bytes : List ℕ) (list : List Token) → TokensTo bytes (length bytes) list (length bytes) → list ≡ []
-nothing_behind bytes [] to = refl
-nothing_behind bytes (token ∷ list) to =
-    absurd (omega (arith, token_goes_on bytes (length bytes) token to.0 to.1, token_end_inside bytes (length bytes) token to.0 to.1))
-
-same_tokens : (bytes : List ℕ) (list other : List Token) → TokensOf bytes list → TokensOf bytes other → list ≡ other
-same_tokens bytes list other to also =
-    elim (one_goes_on bytes list other (first_place bytes) (length bytes) (length bytes) to also) [
-      | inl on ↦ sym (on.parts ∙ (ap (λ (t : List Token). list ++ t) (nothing_behind bytes on.more on.reaches) ∙ append-nil list))
-      | inr longer ↦
-          absurd (omega (arith, token_goes_on bytes (length bytes) longer.token longer.end longer.stands, token_end_inside bytes (length bytes) longer.token longer.end longer.stands))
-    ]
-
 pub spells_one : SpellOneDocument
 spells_one bytes document other is also =
-    let lists = same_tokens bytes is.list also.list is.tokens_are also.tokens_are in
+    let lists = one_list bytes is.list also.list (first_place bytes) (length bytes) is.tokens_are also.tokens_are in
     some_is document other (sym (spells_read document is.list is.spells) ∙ (ap read lists ∙ spells_read other also.list also.spells))

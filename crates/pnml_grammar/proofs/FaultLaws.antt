@@ -1,8 +1,8 @@
 -- Reading token by token tells the document, or the first place that is faulty and why: a faulty place isn't
 -- before what was read, since the tokens up to it would go on by one of those that were. So what is read to
 -- the end has no faulty place, and one that stops a reading is the first.
-use Rattle.std.proofs.Common.{◌≡◌, ℕ, ◌<◌, ◌≤◌, List, [], ◌∷◌, ◌++◌, Option, Some, None, refl, sym, ap, subst, ◌∙◌, arith, inl, inr, length, append_assoc, append-nil}
-use Rattle.std.specs.Prelude.{◌⊎◌, IsUtf8}
+use Rattle.std.proofs.Common.{◌≡◌, ℕ, ◌<◌, ◌≤◌, List, [], ◌∷◌, ◌++◌, Option, Some, None, refl, sym, ap, subst, ◌∙◌, arith, inl, inr, length, append_assoc}
+use Rattle.std.specs.Prelude.{IsUtf8}
 use Rattle.std.specs.List.{AllByRecursion}
 use Rattle.std.specs.Str.{IsValidUpTo}
 use Rattle.net_values.specs.declared.document.Document.{Document}
@@ -13,23 +13,20 @@ use Rattle.pnml_grammar.specs.LegalTexts.{HasLegalTexts}
 use Rattle.pnml_grammar.specs.Runs.{◌>>=◌}
 use Rattle.pnml_grammar.specs.Documents.{DocBytes}
 use Rattle.pnml_grammar.specs.Machine.{State, reason_of, finish, reached, read}
-use Rattle.pnml_grammar.specs.FirstFault.{IsBehind, state_of, Begins, IsFaulty, HasNoToken, HasBadToken, IsFirstFaulty, FirstFault, not_utf8, truncated}
+use Rattle.pnml_grammar.specs.FirstFault.{Begins, IsFaulty, HasNoToken, IsFirstFaulty, FirstFault, not_utf8, truncated}
 use Rattle.pnml_grammar.specs.ReadTo.{IsReadTo}
 use Rattle.pnml_grammar.proofs.LegalLaws.{token_is_legal}
-use Rattle.pnml_grammar.proofs.PlaceLaws.{token_end_inside, token_goes_on, tokens_ascend, GoesOn, IsLonger, one_goes_on}
+use Rattle.pnml_grammar.proofs.EachLaws.{each_front}
+use Rattle.pnml_grammar.proofs.PlaceLaws.{token_end_inside, token_goes_on, tokens_ascend, one_goes_on, one_list}
 use Rattle.pnml_grammar.proofs.TokenLaws.{one_token_stands}
-use Rattle.pnml_grammar.proofs.ReadToLaws.{reached_front, token_is_refused}
-use Rattle.pnml_grammar.proofs.DocumentLaws.{spells_read, reached_spot, read_spells, begins_reached, reached_begins}
+use Rattle.pnml_grammar.proofs.ReadToLaws.{token_is_refused}
+use Rattle.pnml_grammar.proofs.DocumentLaws.{spells_read, reached_spot, reached_front, read_spells, begins_reached, reached_begins}
 
 -- ---- what was read begins a document
 
 tokens_are_legal : (bytes : List ℕ) (list : List Token) (k e : ℕ) → TokensTo bytes k list e → AllByRecursion HasLegalTexts list
 tokens_are_legal bytes [] k e to = tt
 tokens_are_legal bytes (token ∷ list) k e to = (token_is_legal bytes k token to.0 to.1, tokens_are_legal bytes list to.0 e to.2)
-
-legal_front : (list more : List Token) → AllByRecursion HasLegalTexts (list ++ more) → AllByRecursion HasLegalTexts list
-legal_front [] more legal = tt
-legal_front (token ∷ list) more legal = (legal.0, legal_front list more legal.1)
 
 read_is_legal : (bytes : List ℕ) (k : ℕ) (state : State) (read : IsReadTo bytes k state) → AllByRecursion HasLegalTexts read.list
 read_is_legal bytes k state read = tokens_are_legal bytes read.list (first_place bytes) k read.reaches
@@ -41,7 +38,7 @@ read_begins bytes k state read = reached_begins read.list state (read_is_legal b
 front_begins : (list more : List Token) (state : State) → AllByRecursion HasLegalTexts (list ++ more) → reached (list ++ more) ≡ Some state → Begins list
 front_begins list more state legal leads =
     let front = reached_front list more state leads in
-    reached_begins list front.0 (legal_front list more legal) front.1
+    reached_begins list front.0 (each_front HasLegalTexts list more legal) front.1
 
 one_more_begins : (list other more : List Token) (token : Token) (state : State) → list ≡ other ++ token ∷ more → AllByRecursion HasLegalTexts list → reached list ≡ Some state
     → Begins (other ++ token ∷ [])
@@ -122,18 +119,9 @@ whole_is_spelled bytes state document read_to is = record {
   spells = read_spells document read_to.list (read_is_legal bytes (length bytes) state read_to) (read_whole bytes (length bytes) state read_to ∙ is);
 }
 
-nothing_behind : (bytes : List ℕ) (list other : List Token) → GoesOn bytes list other (length bytes) (length bytes) ⊎ IsLonger bytes list other (length bytes) → other ≡ list
-nothing_behind bytes list other (inl on) = on.parts ∙ none on.more on.reaches
-  where
-    none : (more : List Token) → TokensTo bytes (length bytes) more (length bytes) → list ++ more ≡ list
-    none [] to = append-nil list
-    none (token ∷ more) to = absurd (omega (arith, token_goes_on bytes (length bytes) token to.0 to.1, token_end_inside bytes (length bytes) token to.0 to.1))
-nothing_behind bytes list other (inr longer) =
-    absurd (omega (arith, token_goes_on bytes (length bytes) longer.token longer.end longer.stands, token_end_inside bytes (length bytes) longer.token longer.end longer.stands))
-
 no_document : (bytes : List ℕ) (state : State) → IsReadTo bytes (length bytes) state → finish state ≡ None → (document : Document) → DocBytes document bytes → ⊥
 no_document bytes state read_to none document is =
-    let same = nothing_behind bytes read_to.list is.list (one_goes_on bytes read_to.list is.list (first_place bytes) (length bytes) (length bytes) read_to.reaches is.tokens_are) in
+    let same = one_list bytes is.list read_to.list (first_place bytes) (length bytes) is.tokens_are read_to.reaches in
     let spelled = spells_read document is.list is.spells in
     let both = sym (ap read same ∙ read_whole bytes (length bytes) state read_to ∙ none) ∙ spelled in
     absurd cc

@@ -33,6 +33,10 @@ pub mod Endings
 pub mod DocumentLaws
 pub mod ValuedWalks
 pub mod ValuedTestLaws
+pub mod ReadToLaws
+pub mod FaultLaws
+pub mod SpotLaws
+pub mod OneFault
 pub mod CanonTokens
 pub mod CanonPieces
 pub mod CanonElements
@@ -45,5 +49,3 @@ pub mod CanonItems
 pub mod CanonPages
 pub mod CanonReading
 pub mod CanonLaws
-pub mod ReadToLaws
-pub mod FaultLaws

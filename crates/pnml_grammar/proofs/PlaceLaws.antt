@@ -75,3 +75,15 @@ one_goes_on bytes (token ∷ list) (first ∷ other) k e f to also =
     let rest = subst (λ (p : ℕ). TokensTo bytes p other f) (sym same.1) also.2 in
     subst (λ (t : Token). GoesOn bytes (token ∷ list) (t ∷ other) e f ⊎ IsLonger bytes (token ∷ list) (t ∷ other) f) same.0
     (further bytes token list other e f (one_goes_on bytes list other to.0 e f to.2 rest))
+
+-- tokens between two offsets are one list
+pub one_list : (bytes : List ℕ) (list other : List Token) (k e : ℕ) → TokensTo bytes k list e → TokensTo bytes k other e → list ≡ other
+one_list bytes [] [] k e to also = refl
+one_list bytes [] (token ∷ other) k e to also =
+    absurd (omega (arith, to, token_goes_on bytes k token also.0 also.1, tokens_ascend bytes other also.0 e also.2))
+one_list bytes (token ∷ list) [] k e to also =
+    absurd (omega (arith, also, token_goes_on bytes k token to.0 to.1, tokens_ascend bytes list to.0 e to.2))
+one_list bytes (token ∷ list) (first ∷ other) k e to also =
+    let same = one_token_stands bytes k token first to.0 also.0 to.1 also.1 in
+    let rest = one_list bytes list other to.0 e to.2 (subst (λ (p : ℕ). TokensTo bytes p other e) (sym same.1) also.2) in
+    subst (λ (t : Token). token ∷ list ≡ t ∷ other) same.0 (ap (λ (t : List Token). token ∷ t) rest)

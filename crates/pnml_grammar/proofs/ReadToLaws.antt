@@ -1,14 +1,13 @@
--- What was read up to an offset goes on by a token to which no reason applies, and what was read of a front
--- of a list is read of the list.
-use Rattle.std.proofs.Common.{◌≡◌, ℕ, List, [], ◌∷◌, ◌++◌, Option, Some, None, refl, sym, ap, subst, ◌∙◌, append_assoc}
+-- What was read up to an offset goes on by a token to which no reason applies, and stops at one to which one
+-- does.
+use Rattle.std.proofs.Common.{◌≡◌, ℕ, List, [], ◌∷◌, ◌++◌, Option, Some, None, refl, ap, subst, ◌∙◌}
 use Rattle.pnml_grammar.specs.declared.reason.Reason.{Reason}
 use Rattle.pnml_grammar.specs.declared.token.Token.{Token}
 use Rattle.pnml_grammar.specs.declared.token.Token.TheVariants as tokens
-use Rattle.pnml_grammar.specs.Tokens.{TokenAt, TokensTo, first_place}
+use Rattle.pnml_grammar.specs.Tokens.{TokenAt, first_place}
 use Rattle.pnml_grammar.specs.Runs.{◌>>=◌}
 use Rattle.pnml_grammar.specs.Machine.{State, start, reason_of, next, step, run, behind_declaration, reached}
 use Rattle.pnml_grammar.specs.ReadTo.{IsReadTo}
-use Rattle.pnml_grammar.proofs.RunLaws.{bind_some, some_is}
 use Rattle.pnml_grammar.proofs.PlaceLaws.{tokens_then}
 
 -- ---- runs
@@ -27,18 +26,6 @@ run_append state (token ∷ list) more =
 declaration_in_front : (token : Token) (list more : List Token) → behind_declaration ((token ∷ list) ++ more) ≡ behind_declaration (token ∷ list) ++ more
 declaration_in_front tokens.Declaration list more = refl
 declaration_in_front _ list more = refl
-
-reached_append : (token : Token) (list more : List Token) → reached ((token ∷ list) ++ more) ≡ (reached (token ∷ list) >>= λ after. run after more)
-unfolding reached
-reached_append token list more = ap (run start) (declaration_in_front token list more) ∙ run_append start (behind_declaration (token ∷ list)) more
-
--- a front of a list that is read is read
-pub reached_front : (list more : List Token) (state : State) → reached (list ++ more) ≡ Some state → (front : State) × (reached list ≡ Some front)
-unfolding reached
-reached_front [] more state e = (start, refl)
-reached_front (token ∷ list) more state e =
-    let parts = bind_some (reached (token ∷ list)) (λ after. run after more) state (sym (reached_append token list more) ∙ e) in
-    (parts.0, parts.1)
 
 -- ---- what was read up to an offset
 

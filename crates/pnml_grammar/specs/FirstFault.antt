@@ -116,3 +116,9 @@ FirstFault bytes (not_utf8 k) = (IsUtf8 bytes → ⊥) × IsUtf8UpTo bytes k
 FirstFault bytes (at k reason) = IsUtf8 bytes × IsFirstFaulty bytes k reason
 FirstFault bytes (truncated k) =
     IsUtf8 bytes × ((j : ℕ) → IsFaulty bytes j → ⊥) × ((document : Document) → DocBytes document bytes → ⊥) × (k ≡ length bytes)
+
+-- bytes have at most one fault, and none where they spell a document
+abbrev pub HaveOneAnswer : Type 0
+HaveOneAnswer =
+    (bytes : List ℕ) (fault : Fault) → FirstFault bytes fault
+    → ((other : Fault) → FirstFault bytes other → fault ≡ other) × ((document : Document) → DocBytes document bytes → ⊥)

@@ -1,6 +1,7 @@
 //! The grammar of the documents that are read: the tokens of PNML's text, XML 1.0 in a narrow profile, what
 //! it means that one stands at an offset, what it means that tokens spell a document, and the one text that
-//! is written for it. At most one token stands at an offset, and bytes spell at most one document.
+//! is written for it. At most one token stands at an offset, and bytes spell at most one document or have
+//! one fault.
 #![tactic(auto)]
 
 mod element;
@@ -14,7 +15,7 @@ mod walk;
 
 pub use element::{AttributeKind, Context, ElementKind};
 pub use legal::{is_legal_character, is_legal_text};
-pub use law::{canonical_text_tells_documents_apart, one_document, one_token};
+pub use law::{canonical_text_tells_documents_apart, one_answer, one_document, one_token};
 pub use names::{ATTRIBUTES, ELEMENTS, Names, find, find_in};
 pub use reason::{Counted, Reason};
 pub use token::{Attribute, Attributes, Token};

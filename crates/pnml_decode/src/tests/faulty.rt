@@ -5,7 +5,7 @@ use crate::Reason::{
 };
 
 /// A document up to the offset of its fault, what stands from there on, and the reason.
-pub(super) type Faulty = (&'static [u8], &'static [u8], Reason);
+type Faulty = (&'static [u8], &'static [u8], Reason);
 
 /// Faults of whole inputs, in the order of the reasons.
 pub(super) const FROM_THE_FRONT: [Faulty; 30] = [

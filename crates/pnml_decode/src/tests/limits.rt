@@ -4,58 +4,58 @@ use std::alloc::{AllocError, Global};
 use std::process::Abort;
 use std::test::Fail;
 
-/// A value between two texts: it may have so many bytes, and with more the token at `offset` bytes behind
-/// the front is refused.
+/// A value between two texts behind what stands in front of its token: it may have so many bytes, and with
+/// one more the token is refused.
 #[derive(Clone, Copy)]
 struct Value {
+    front: &'static [u8],
     before: &'static [u8],
     after: &'static [u8],
     limit: usize,
-    offset: usize,
     reason: Reason,
 }
 
 const VALUES: [Value; 6] = [
     Value {
+        front: b"",
         before: b"<place id='",
         after: b"'/>",
         limit: 4_096,
-        offset: 0,
         reason: Reason::BadAttribute,
     },
     Value {
+        front: b"",
         before: b"<arc id='a' target='t' source='",
         after: b"'/>",
         limit: 4_096,
-        offset: 0,
         reason: Reason::BadAttribute,
     },
     Value {
+        front: b"",
         before: b"<arc id='a' source='p' target='",
         after: b"'></arc>",
         limit: 4_096,
-        offset: 0,
         reason: Reason::BadAttribute,
     },
     Value {
+        front: b"",
         before: b"<referenceTransition id='r' ref='",
         after: b"'/>",
         limit: 4_096,
-        offset: 0,
         reason: Reason::BadAttribute,
     },
     Value {
-        before: b"<name><text>",
+        front: b"<name><text>",
+        before: b"",
         after: b"</text></name>",
         limit: 65_536,
-        offset: 12,
         reason: Reason::TooMany(Counted::NameBytes),
     },
     Value {
-        before: b"<name><text>a<![CDATA[",
+        front: b"<name><text>a",
+        before: b"<![CDATA[",
         after: b"]]></text></name>",
         limit: 65_535,
-        offset: 13,
         reason: Reason::TooMany(Counted::NameBytes),
     },
 ];
@@ -163,34 +163,40 @@ fn repeated(alloc: Global, piece: &[u8], count: usize) -> Result<Vec<u8>, AllocE
     Ok(text)
 }
 
-/// The fault of a document whose net has a value of so many bytes.
+/// The fault of a document whose net has this value.
 fn fault_of_value(
     alloc: Global,
-    value: &Value,
-    bytes: usize,
+    row: &Value,
+    value: &[u8],
 ) -> Result<Option<DocFault>, AllocError> {
-    let letters = repeated(alloc, b"x", bytes)?;
-    let pieces = [
-        OPENING,
-        value.before,
-        letters.as_slice(),
-        value.after,
-        CLOSING,
-    ];
-    let text = joined(alloc, &pieces)?;
+    let mut text = joined(alloc, OPENING, row.front)?;
+    text.extend_from_slice(row.before)?;
+    text.extend_from_slice(value)?;
+    text.extend_from_slice(row.after)?;
+    text.extend_from_slice(CLOSING)?;
     Ok(fault(alloc, text.as_slice()))
+}
+
+/// A value of the limit's bytes is taken, and so is one that is a byte shorter; a longer one is refused.
+fn check_value(rt: &impl Abort, alloc: Global, row: &Value) -> Result<(), AllocError> {
+    let mut value = repeated(alloc, b"x", row.limit.saturating_sub(1))?;
+    assert_eq!(rt; fault_of_value(alloc, row, value.as_slice())?, None);
+    value.push(b'x')?;
+    assert_eq!(rt; fault_of_value(alloc, row, value.as_slice())?, None);
+    value.push(b'x')?;
+    let front = joined(alloc, OPENING, row.front)?;
+    let refused = DocFault::At(front.len() as u64, row.reason);
+    assert_eq!(rt;
+        fault_of_value(alloc, row, value.as_slice())?,
+        Some(refused)
+    );
+    Ok(())
 }
 
 #[test]
 fn values_are_bounded(rt: HostRuntime) -> Result<(), Fail> {
-    for value in VALUES.iter() {
-        let refused = DocFault::At((OPENING.len() + value.offset) as u64, value.reason);
-        assert_eq!(rt; fault_of_value(rt.alloc(), value, value.limit - 1)?, None);
-        assert_eq!(rt; fault_of_value(rt.alloc(), value, value.limit)?, None);
-        assert_eq!(rt;
-            fault_of_value(rt.alloc(), value, value.limit + 1)?,
-            Some(refused)
-        );
+    for row in VALUES.iter() {
+        check_value(&rt, rt.alloc(), row)?;
     }
     Ok(())
 }
@@ -199,10 +205,12 @@ fn values_are_bounded(rt: HostRuntime) -> Result<(), Fail> {
 fn check_count(rt: &impl Abort, alloc: Global, count: &Count) -> Result<(), AllocError> {
     let pieces = repeated(alloc, count.piece, count.limit)?;
     let ends = repeated(alloc, count.after, count.limit)?;
-    let front = joined(alloc, &[OPENING, count.before, pieces.as_slice()])?;
-    let whole = joined(alloc, &[front.as_slice(), ends.as_slice(), CLOSING])?;
+    let mut front = joined(alloc, OPENING, count.before)?;
+    front.extend_from_slice(pieces.as_slice())?;
+    let mut whole = joined(alloc, front.as_slice(), ends.as_slice())?;
+    whole.extend_from_slice(CLOSING)?;
     assert_eq!(rt; fault(alloc, whole.as_slice()), None);
-    let more = joined(alloc, &[front.as_slice(), count.next])?;
+    let more = joined(alloc, front.as_slice(), count.next)?;
     let refused = DocFault::At(front.len() as u64, count.reason);
     assert_eq!(rt; fault(alloc, more.as_slice()), Some(refused));
     Ok(())

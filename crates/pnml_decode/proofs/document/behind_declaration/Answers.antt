@@ -1,11 +1,6 @@
 -- A declaration leads nowhere; where none stands nothing was read.
-use Rattle.std.proofs.Common.{◌≡◌, ℕ, ◌≤◌, length, None, Some, ap, subst, sym, ◌∙◌}
+use Rattle.std.proofs.Common.{sym, ◌∙◌}
 use Rattle.std.proofs.lemmas.Result.{err_from_is_err_and}
-use Rattle.pnml_grammar.specs.Tokens.{TokenAt}
-use Rattle.pnml_grammar.specs.Machine.{start}
-use Rattle.pnml_grammar.specs.ReadTo.{IsReadTo}
-use Rattle.pnml_token.specs.Steps.{IfToken, IfEnd}
-use Rattle.pnml_decode.specs.Faults.{IsMissing}
 use Rattle.pnml_decode.proofs.LoopLaws.{missing_in_front, nothing_in_front, declaration_in_front}
 use Rattle.pnml_decode.proofs.document.behind_declaration.Goals as goal
 
