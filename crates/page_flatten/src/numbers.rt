@@ -112,6 +112,15 @@ struct Entry<'d> {
     kind: Option<NodeKind>,
 }
 
+impl<'d> Entry<'d> {
+    fn new(id: &'d Text, kind: Option<NodeKind>) -> Entry<'d>
+        ensures id { result.id.now ≡ id.now }
+        ensures kind { result.kind ≡ kind }
+    {
+        Entry { id, kind }
+    }
+}
+
 /// The element that begins with an item, if one does.
 fn entry_of_item(item: &Item) -> Option<Entry<'_>>
     ensures { option_map (λ entry. (entry.id.now, entry.kind)) result ≡ item_entry item.now }
@@ -119,30 +128,12 @@ fn entry_of_item(item: &Item) -> Option<Entry<'_>>
     let places = Some(NodeKind::OfPlaces);
     let transitions = Some(NodeKind::OfTransitions);
     match item {
-        Item::Page(page) => Some(Entry {
-            id: &page.id,
-            kind: None,
-        }),
+        Item::Page(page) => Some(Entry::new(&page.id, None)),
         Item::PageEnd => None,
-        Item::Place(node) => Some(Entry {
-            id: &node.id,
-            kind: places,
-        }),
-        Item::Transition(node) => Some(Entry {
-            id: &node.id,
-            kind: transitions,
-        }),
-        Item::RefPlace(node) => Some(Entry {
-            id: &node.id,
-            kind: places,
-        }),
-        Item::RefTransition(node) => Some(Entry {
-            id: &node.id,
-            kind: transitions,
-        }),
-        Item::Arc(arc) => Some(Entry {
-            id: &arc.id,
-            kind: None,
-        }),
+        Item::Place(node) => Some(Entry::new(&node.id, places)),
+        Item::Transition(node) => Some(Entry::new(&node.id, transitions)),
+        Item::RefPlace(node) => Some(Entry::new(&node.id, places)),
+        Item::RefTransition(node) => Some(Entry::new(&node.id, transitions)),
+        Item::Arc(arc) => Some(Entry::new(&arc.id, None)),
     }
 }
