@@ -1,5 +1,5 @@
-//! The flat net that a document stands for: pages and reference nodes are resolved away, exactly where
-//! the document breaks none of the five rules, and else the first broken rule is named.
+//! The flat net that a document stands for: pages and reference nodes are resolved away, exactly
+//! where the document breaks none of the five rules, and else the first broken rule is named.
 #![tactic(auto)]
 
 mod arcs;

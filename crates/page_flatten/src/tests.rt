@@ -125,16 +125,16 @@ fn documents_are_flattened_or_the_first_broken_rule_is_named(rt: HostRuntime) ->
         ),
         // references are followed through chains, and pages make no difference
         (
-            "page g;refplace r s;refplace s p;end;page h;place p 2;end;transition t;arc a r t;arc b s t 2;arc c t r 3",
-            "p=2 t p>t=3 t>p=3 arcs=3",
+            "page g;refplace r s;refplace s p;end;page h;place p 2;end;transition t;arc a r t;arc b t s",
+            "p=2 t p>t=1 t>p=1 arcs=2",
         ),
         (
             "reftransition r s;reftransition s t;transition t;place p;arc a p r;arc b s p 9",
             "p=0 t p>t=1 t>p=9 arcs=2",
         ),
         (
-            "page g;arc a p u;page h;place p;end;end;transition u;place q 1;transition t;arc b t q;arc c q t",
-            "p=0 q=1 u t p>u=1 q>t=1 t>q=1 arcs=3",
+            "page g;arc a p u;page h;place p;end;end;transition u;place q 1;transition t;arc b t q",
+            "p=0 q=1 u t p>u=1 t>q=1 arcs=2",
         ),
         // ids that the net, a page, a node or an arc has already
         ("place n", "duplicate n"),
