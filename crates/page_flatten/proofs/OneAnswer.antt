@@ -1,22 +1,19 @@
 -- The definitions determine the answer: two first members without a property are one, two resolved ends of an
 -- id are one, so there is one first broken rule and one flat net.
-use Rattle.std.proofs.Common.{◌≡◌, refl, sym, ap, ◌∙◌, subst, ℕ, zero, suc, ◌+◌, ◌<◌, ◌≤◌, List, [], ◌∷◌, ◌++◌, Option, Some, None, length, map, slice_get, sum_by, inl, inr, arith}
+use Rattle.std.proofs.Common.{◌≡◌, refl, sym, ap, ◌∙◌, subst, ℕ, zero, suc, ◌<◌, List, [], ◌∷◌, ◌++◌, Some, length, map, slice_get, sum_by, inl, inr, arith}
 use Rattle.std.specs.List.{flat_map, AllByRecursion, AllZip}
 use Rattle.std.proofs.lemmas.Bool.{cases_lt}
-use Rattle.net_values.specs.declared.document.Document.{Document}
 use Rattle.net_values.specs.declared.document.NetTree.{NetTree}
 use Rattle.net_values.specs.declared.document.ArcNode.{ArcNode}
-use Rattle.net_values.specs.FlatNets.{NetLists}
 use Rattle.page_flatten.specs.declared.fault.FlatFault.{FlatFault}
 use Rattle.page_flatten.specs.declared.fault.FlatFault.TheVariants.{NoMemory, DuplicateId, UnknownId, RefKind, RefCycle, ArcEnds}
 use Rattle.page_flatten.specs.declared.node.End.{End}
 use Rattle.page_flatten.specs.declared.node.End.TheVariants.{AtPlace, AtTransition}
-use Rattle.page_flatten.specs.declared.node.NodeKind.{NodeKind}
-use Rattle.page_flatten.specs.Elements.{Element, Role, NoNode, Real, Reference, elements, Mention, ReferenceTo, mentions, references, arcs}
+use Rattle.page_flatten.specs.Elements.{Element, Role, Real, Reference, elements, Mention, ReferenceTo, mentions, references, arcs}
 use Rattle.page_flatten.specs.Chains.{Resolves, to_itself, to_what_it_names}
-use Rattle.page_flatten.specs.Rules.{AreDistinct, ids_of, IsFirstWithout, IsFirstRepeated, BreaksNoRule, FirstBrokenOf}
-use Rattle.page_flatten.specs.Flat.{FlatArc, IsResolved, Flat, weight_between}
-use Rattle.page_flatten.specs.Laws.{HasOneFault, BreaksWhereFaulty, IsSameNet, HasOneFlatNet}
+use Rattle.page_flatten.specs.Rules.{AreDistinct, ids_of, IsFirstWithout, IsFirstRepeated, FirstBrokenOf}
+use Rattle.page_flatten.specs.Flat.{FlatArc, IsResolved, weight_between}
+use Rattle.page_flatten.specs.Laws.{HasOneFault, BreaksWhereFaulty, HasOneFlatNet}
 use Rattle.page_flatten.proofs.Lists.{some_is, within, get_map, get_front}
 use Rattle.page_flatten.proofs.Passes.{each_behind}
 
