@@ -10,3 +10,4 @@ pub mod NodeLaws
 pub mod LinkLaws
 pub mod ArcLaws
 pub mod WholeLaws
+pub mod OneAnswer

@@ -26,10 +26,12 @@ abbrev pub elements_from : List Item → ℕ → ℕ → List Element
 elements_from [] p t = []
 elements_from (Page page ∷ items) p t = record { id = page.id; role = NoNode } ∷ elements_from items p t
 elements_from (PageEnd ∷ items) p t = elements_from items p t
-elements_from (Place node ∷ items) p t = record { id = node.id; role = Real (AtPlace p) } ∷ elements_from items (p + 1) t
+elements_from (Place node ∷ items) p t =
+    record { id = node.id; role = Real (AtPlace p) } ∷ elements_from items (p + 1) t
 elements_from (Transition node ∷ items) p t =
     record { id = node.id; role = Real (AtTransition t) } ∷ elements_from items p (t + 1)
-elements_from (RefPlace node ∷ items) p t = record { id = node.id; role = Reference OfPlaces node.target } ∷ elements_from items p t
+elements_from (RefPlace node ∷ items) p t =
+    record { id = node.id; role = Reference OfPlaces node.target } ∷ elements_from items p t
 elements_from (RefTransition node ∷ items) p t =
     record { id = node.id; role = Reference OfTransitions node.target } ∷ elements_from items p t
 elements_from (Arc arc ∷ items) p t = record { id = arc.id; role = NoNode } ∷ elements_from items p t

@@ -5,3 +5,4 @@ pub mod Rules
 pub mod Flat
 pub mod Tables
 pub mod Joints
+pub mod Laws

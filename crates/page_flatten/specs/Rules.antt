@@ -96,7 +96,8 @@ abbrev pub FirstBrokenOf : NetTree → FlatFault → Type 0
 FirstBrokenOf net NoMemory = ⊥
 FirstBrokenOf net (DuplicateId id) = IsFirstRepeated (ids_of net) id
 FirstBrokenOf net (UnknownId id by) =
-    HasDistinctIds net × IsFirstWithout (IsKnown (entries net)) (flat_map mentions net.items) record { id = id; by = by }
+    HasDistinctIds net
+    × IsFirstWithout (IsKnown (entries net)) (flat_map mentions net.items) record { id = id; by = by }
 FirstBrokenOf net (RefKind id) =
     HasDistinctIds net × MentionsNodes net × (reference : ReferenceTo)
     × IsFirstWithout (NamesItsKind (entries net)) (flat_map references net.items) reference × (reference.id ≡ id)

@@ -35,7 +35,8 @@ item_entry (RefTransition node) = Some (node.id, Some OfTransitions)
 item_entry (Arc arc) = Some (arc.id, None)
 
 -- the element that begins with an item was numbered, and its id is that of no earlier one
-pub record IsNumbered (old new : List (List ℕ × Option NodeKind)) (entry : Option (List ℕ × Option NodeKind)) : Type 0 where
+pub record IsNumbered (old new : List (List ℕ × Option NodeKind))
+    (entry : Option (List ℕ × Option NodeKind)) : Type 0 where
   pub grown : new ≡ old ++ option_to_list entry
   pub fresh : IfSome entry (λ e. (n : ℕ) → slice_get (table_ids old) n ≡ Some e.0 → ⊥)
 
@@ -86,7 +87,8 @@ AreLinksOf table (element ∷ elements) (link ∷ links) =
     IsLinkOf table element.role link × AreLinksOf table elements links
 
 -- the node with the id is in the table, and its chain ends so
-pub record EndsById (table : List (List ℕ × Option NodeKind)) (links : List Link) (id : List ℕ) (end : End) : Type 0 where
+pub record EndsById (table : List (List ℕ × Option NodeKind))
+    (links : List Link) (id : List ℕ) (end : End) : Type 0 where
   pub number : ℕ
   pub kind : NodeKind
   pub stands : slice_get table number ≡ Some (id, Some kind)
@@ -97,7 +99,8 @@ abbrev pub ItsLinksEnd : List (List ℕ × Option NodeKind) → List Link → Re
 ItsLinksEnd table links reference = (end : End) × EndsById table links reference.target end
 
 -- the resolved ends of an arc are one place and one transition, by the tables
-pub record LinksJoin (table : List (List ℕ × Option NodeKind)) (links : List Link) (arc : ArcNode) : Type 0 where
+pub record LinksJoin (table : List (List ℕ × Option NodeKind))
+    (links : List Link) (arc : ArcNode) : Type 0 where
   pub source : End
   pub target : End
   pub source_ends : EndsById table links arc.source source
@@ -138,18 +141,22 @@ LinksStayWithin places transitions links =
     (n : ℕ) (end : End) → EndsAt links n end → IsEndWithin places transitions end
 
 -- the arc with its ends resolved, by the tables
-pub record IsResolvedBy (table : List (List ℕ × Option NodeKind)) (links : List Link) (arc : ArcNode) (flat : FlatArc) : Type 0 where
+pub record IsResolvedBy (table : List (List ℕ × Option NodeKind))
+    (links : List Link) (arc : ArcNode) (flat : FlatArc) : Type 0 where
   pub source : EndsById table links arc.source flat.source
   pub target : EndsById table links arc.target flat.target
   pub weight : flat.weight ≡ arc.weight
 
 -- the arcs were added to the net, each between what its ends resolve to
-pub record AddsArcs (table : List (List ℕ × Option NodeKind)) (links : List Link) (list : List ArcNode) (old new : NetLists) : Type 0 where
+pub record AddsArcs (table : List (List ℕ × Option NodeKind))
+    (links : List Link) (list : List ArcNode) (old new : NetLists) : Type 0 where
   pub flat_arcs : List FlatArc
   pub resolved : AllZip (IsResolvedBy table links) list flat_arcs
   pub joined : AllByRecursion (LinksJoin table links) list
-  pub pre : (p t : ℕ) → (net_of new).pre p t ≡ (net_of old).pre p t + sum_by (weight_between (AtPlace p) (AtTransition t)) flat_arcs
-  pub post : (p t : ℕ) → (net_of new).post p t ≡ (net_of old).post p t + sum_by (weight_between (AtTransition t) (AtPlace p)) flat_arcs
+  pub pre : (p t : ℕ)
+      → (net_of new).pre p t ≡ (net_of old).pre p t + sum_by (weight_between (AtPlace p) (AtTransition t)) flat_arcs
+  pub post : (p t : ℕ)
+      → (net_of new).post p t ≡ (net_of old).post p t + sum_by (weight_between (AtTransition t) (AtPlace p)) flat_arcs
   pub nodes : KeepsNodes old new
   pub count : new.arcs ≡ old.arcs + length list
 

@@ -15,8 +15,8 @@ use crate::numbers::Numbers;
 use net_values::{ArcNode, FlatNet, Item, Text};
 use std::alloc::Global;
 
-/// Adds the arcs among the items to the net, each between what its ends resolve to. The first one whose
-/// resolved ends aren't one place and one transition is refused.
+/// Adds the arcs among the items to the net, each between what its ends resolve to. The first one
+/// whose resolved ends aren't one place and one transition is refused.
 pub fn add_arcs(
     alloc: Global,
     items: &[Item],
@@ -25,11 +25,14 @@ pub fn add_arcs(
     net: &mut FlatNet,
 ) -> Result<(), FlatFault>
     requires distinct { AreDistinct (table_ids numbers.now) }
-    requires within { let net = net_of net.old in LinksStayWithin net.places net.transitions links.now }
+    requires within { let net = net_of net.old in
+        LinksStayWithin net.places net.transitions links.now }
     requires values { AllByRecursion HasValuesInRange items.now }
     requires room { net.old.arcs + length (flat_map arcs items.now) ≤ 65536 }
-    ensures ok { OnOk result (AddsArcs numbers.now links.now (flat_map arcs items.now) net.old net.new) }
-    ensures fault { IfErr result (IsFirstMisjoined numbers.now links.now (flat_map arcs items.now)) }
+    ensures ok { OnOk result
+        (AddsArcs numbers.now links.now (flat_map arcs items.now) net.old net.new) }
+    ensures fault { IfErr result
+        (IsFirstMisjoined numbers.now links.now (flat_map arcs items.now)) }
 {
     for item in items {
         add_arc_of(alloc, item, numbers, links, net)?;
@@ -46,7 +49,8 @@ fn add_arc_of(
     net: &mut FlatNet,
 ) -> Result<(), FlatFault>
     requires distinct { AreDistinct (table_ids numbers.now) }
-    requires within { let net = net_of net.old in LinksStayWithin net.places net.transitions links.now }
+    requires within { let net = net_of net.old in
+        LinksStayWithin net.places net.transitions links.now }
     requires values { HasValuesInRange item.now }
     requires room { net.old.arcs + length (arcs item.now) ≤ 65536 }
     ensures ok { OnOk result (AddsArcs numbers.now links.now (arcs item.now) net.old net.new) }
@@ -58,8 +62,8 @@ fn add_arc_of(
     }
 }
 
-/// Adds an arc to the net between what its ends resolve to. It is refused where they aren't one place and
-/// one transition.
+/// Adds an arc to the net between what its ends resolve to. It is refused where they aren't one
+/// place and one transition.
 fn add_arc(
     alloc: Global,
     arc: &ArcNode,
@@ -68,7 +72,8 @@ fn add_arc(
     net: &mut FlatNet,
 ) -> Result<(), FlatFault>
     requires distinct { AreDistinct (table_ids numbers.now) }
-    requires within { let net = net_of net.old in LinksStayWithin net.places net.transitions links.now }
+    requires within { let net = net_of net.old in
+        LinksStayWithin net.places net.transitions links.now }
     requires weight { 1 ≤ arc.now.weight }
     requires room { net.old.arcs + 1 ≤ 65536 }
     ensures ok { OnOk result (AddsArcs numbers.now links.now (arc.now ∷ []) net.old net.new) }

@@ -12,8 +12,9 @@ use crate::numbers::Numbers;
 use net_values::{Item, RefNode, Text};
 use std::alloc::Global;
 
-/// Follows each reference node to the end of its chain, and lets the links of that chain lead straight to
-/// it, so that no link is followed often. The first reference node whose chain doesn't end is refused.
+/// Follows each reference node to the end of its chain, and lets the links of that chain lead
+/// straight to it, so that no link is followed often. The first reference node whose chain doesn't
+/// end is refused.
 pub fn settle_references(
     alloc: Global,
     items: &[Item],
@@ -22,8 +23,10 @@ pub fn settle_references(
 ) -> Result<(), FlatFault>
     requires { AreDistinct (table_ids numbers.now) }
     ensures same { HaveSameEnds links.old links.new }
-    ensures ok { OnOk result (AllByRecursion (ItsLinksEnd numbers.now links.old) (flat_map references items.now)) }
-    ensures fault { IfErr result (IsFirstEndless numbers.now links.old (flat_map references items.now)) }
+    ensures ok { OnOk result
+        (AllByRecursion (ItsLinksEnd numbers.now links.old) (flat_map references items.now)) }
+    ensures fault { IfErr result
+        (IsFirstEndless numbers.now links.old (flat_map references items.now)) }
 {
     for item in items {
         settle_reference_of(alloc, item, numbers, links)?;
@@ -40,7 +43,8 @@ fn settle_reference_of(
 ) -> Result<(), FlatFault>
     requires { AreDistinct (table_ids numbers.now) }
     ensures same { HaveSameEnds links.old links.new }
-    ensures ok { OnOk result (AllByRecursion (ItsLinksEnd numbers.now links.old) (references item.now)) }
+    ensures ok { OnOk result
+        (AllByRecursion (ItsLinksEnd numbers.now links.old) (references item.now)) }
     ensures fault { IfErr result (IsFirstEndless numbers.now links.old (references item.now)) }
 {
     match item {
@@ -69,7 +73,8 @@ fn settle_reference(
     }
 }
 
-/// Follows the chain from the node with this id, settles it where it ends, and says whether it does.
+/// Follows the chain from the node with this id, settles it where it ends, and says whether it
+/// does.
 fn settle_chain(id: &Text, numbers: &Numbers<'_>, links: &mut [Link]) -> bool
     requires { AreDistinct (table_ids numbers.now) }
     ensures same { HaveSameEnds links.old links.new }

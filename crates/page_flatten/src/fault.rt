@@ -2,16 +2,16 @@ ghost use Rattle.std.specs.Prelude.{◌≡◌};
 
 use net_values::{NoMemory, Text};
 
-/// Why a document stands for no flat net: the first of the five rules that it breaks, with ids of the first
-/// place in document order that breaks it, or want of memory.
+/// Why a document stands for no flat net: the first of the five rules that it breaks, with ids of
+/// the first place in document order that breaks it, or want of memory.
 #[derive(Drop)]
 pub enum FlatFault {
     /// The system refused memory.
     NoMemory,
     /// An earlier element has this element's id. Net, pages, nodes and arcs are counted.
     DuplicateId(Text),
-    /// The first id is that of no node, and the element with the second one mentions it as its `ref`,
-    /// `source` or `target`.
+    /// The first id is that of no node, and the element with the second one mentions it as its
+    /// `ref`, `source` or `target`.
     UnknownId(Text, Text),
     /// This reference node names a node of the other kind.
     RefKind(Text),

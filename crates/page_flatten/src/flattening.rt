@@ -13,15 +13,17 @@ use crate::rules::{check_kinds, check_mentions};
 use net_values::{Document, FlatNet};
 use std::alloc::Global;
 
-/// The flat net of a document (ISO/IEC 15909-2): places and transitions in document order, with their ids
-/// and initial markings, and between a place and a transition the sum of the weights of all arcs whose
-/// resolved ends they are. A place or a transition resolves to itself, a reference node to what the node
-/// that its `ref` names resolves to. Arcs may join nodes of different pages.
+/// The flat net of a document (ISO/IEC 15909-2): places and transitions in document order, with
+/// their ids and initial markings, and between a place and a transition the sum of the weights of
+/// all arcs whose resolved ends they are. A place or a transition resolves to itself, a reference
+/// node to what the node that its `ref` names resolves to. Arcs may join nodes of different pages.
 ///
-/// Refused, besides for want of memory, exactly where one of these rules is broken, the first of them:
+/// Refused, besides for want of memory, exactly where one of these rules is broken, the first of
+/// them:
 /// 1. `DuplicateId`: ids are unique; net, pages, nodes and arcs are counted.
 /// 2. `UnknownId`: each `ref`, `source` and `target` is the id of a node.
-/// 3. `RefKind`: a reference place names a place or a reference place, a reference transition likewise.
+/// 3. `RefKind`: a reference place names a place or a reference place, a reference transition
+///    likewise.
 /// 4. `RefCycle`: each chain of references ends.
 /// 5. `ArcEnds`: the resolved ends of each arc are one place and one transition.
 pub fn flatten(alloc: Global, document: &Document) -> Result<FlatNet, FlatFault>

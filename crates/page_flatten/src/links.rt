@@ -11,7 +11,8 @@ use crate::numbers::Numbers;
 use net_values::{Item, NetTree, NoMemory, Text};
 use std::alloc::Global;
 
-/// The links of the elements by their numbers: each reference node leads on to the node that it names.
+/// The links of the elements by their numbers: each reference node leads on to the node that it
+/// names.
 pub fn links(alloc: Global, net: &NetTree, numbers: &Numbers<'_>) -> Result<Vec<Link>, NoMemory>
     requires distinct { AreDistinct (table_ids numbers.now) }
     requires known { AllByRecursion (IsKnown numbers.now) (flat_map mentions net.now.items) }
@@ -63,7 +64,8 @@ fn next_after(item: &Item, next: Next) -> Next
 fn link_of(item: &Item, numbers: &Numbers<'_>, next: Next) -> Option<Link>
     requires distinct { AreDistinct (table_ids numbers.now) }
     requires known { AllByRecursion (IsKnown numbers.now) (mentions item.now) }
-    ensures { AreLinksOf numbers.now (elements_from (item.now ∷ []) next.place next.transition) (option_to_list result) }
+    ensures { let element = elements_from (item.now ∷ []) next.place next.transition in
+        AreLinksOf numbers.now element (option_to_list result) }
 {
     match item {
         Item::PageEnd => None,

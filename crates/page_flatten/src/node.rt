@@ -12,8 +12,8 @@ pub enum End {
     AtTransition(usize),
 }
 
-/// What an element is to a chain of references: no node, a place or a transition, or a reference that
-/// leads on to the element of a number.
+/// What an element is to a chain of references: no node, a place or a transition, or a reference
+/// that leads on to the element of a number.
 #[derive(Clone, Copy)]
 pub enum Link {
     Apart,

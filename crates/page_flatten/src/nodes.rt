@@ -13,7 +13,8 @@ pub fn nodes(alloc: Global, items: &[Item]) -> Result<FlatNet, NoMemory>
     requires places { count_by is_place items.now ≤ 2048 }
     requires transitions { count_by is_transition items.now ≤ 2048 }
     ensures places { IfOk result (λ net. net.places ≡ flat_map flat_places items.now) }
-    ensures transitions { IfOk result (λ net. transition_ids net ≡ flat_map flat_transitions items.now) }
+    ensures transitions { IfOk result
+        (λ net. transition_ids net ≡ flat_map flat_transitions items.now) }
     ensures arcs { IfOk result HasNoArcs }
 {
     let mut net = FlatNet::new(alloc);

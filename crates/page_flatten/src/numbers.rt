@@ -11,8 +11,8 @@ use net_values::{Item, NetTree, NoMemory, Text};
 use std::alloc::Global;
 use std::marker::Model;
 
-/// The numbers of the elements: ids in first-seen order, each with the kind of node that its element is, if
-/// it is one. Contracts see the list of both.
+/// The numbers of the elements: ids in first-seen order, each with the kind of node that its element
+/// is, if it is one. Contracts see the list of both.
 #[derive(Drop)]
 pub struct Numbers<'d> {
     table: IndexMap<&'d str, Option<NodeKind>>,
@@ -42,8 +42,8 @@ impl<'d> Numbers<'d> {
         }
     }
 
-    /// Numbers the element that begins with an item, if one does. It is refused where an earlier element has
-    /// its id.
+    /// Numbers the element that begins with an item, if one does. It is refused where an earlier
+    /// element has its id.
     fn add_item(&mut self, alloc: Global, item: &'d Item) -> Result<(), FlatFault>
         ensures ok { OnOk result (IsNumbered self.old self.new (item_entry item.now)) }
         ensures fault { IfErr result (IsRepeated self.old (item_entry item.now)) }
@@ -61,7 +61,8 @@ impl<'d> Numbers<'d> {
     /// Gives the id the next number and says so, unless an earlier element has it.
     fn add(&mut self, id: &'d Text, kind: Option<NodeKind>) -> Result<bool, NoMemory>
         ensures { IfOk result (λ added. MatchBool added
-            ((self.new ≡ self.old ++ (id.now, kind) ∷ []) × ((n : ℕ) → slice_get (table_ids self.old) n ≡ Some id.now → ⊥))
+            ((self.new ≡ self.old ++ (id.now, kind) ∷ [])
+            × ((n : ℕ) → slice_get (table_ids self.old) n ≡ Some id.now → ⊥))
             ((n : ℕ) × (slice_get (table_ids self.old) n ≡ Some id.now))) }
     {
         let old = self.table.insert(id.as_str(), kind)?;
@@ -72,7 +73,8 @@ impl<'d> Numbers<'d> {
     pub fn node(&self, id: &Text) -> Option<(usize, NodeKind)>
         requires { AreDistinct (table_ids self.now) }
         ensures found { IfSome result (λ r. slice_get self.now r.0 ≡ Some (id.now, Some r.1)) }
-        ensures none { IfNone result ((n : ℕ) (kind : NodeKind) → slice_get self.now n ≡ Some (id.now, Some kind) → ⊥) }
+        ensures none { IfNone result
+            ((n : ℕ) (kind : NodeKind) → slice_get self.now n ≡ Some (id.now, Some kind) → ⊥) }
     {
         let (number, kind) = self.element(id)?;
         Some((number, kind?))
@@ -81,7 +83,8 @@ impl<'d> Numbers<'d> {
     /// The number of the element with this id, and what node it is, if there is one.
     fn element(&self, id: &Text) -> Option<(usize, Option<NodeKind>)>
         ensures found { IfSome result (λ r. slice_get self.now r.0 ≡ Some (id.now, r.1)) }
-        ensures none { IfNone result ((n : ℕ) → slice_get (table_ids self.now) n ≡ Some id.now → ⊥) }
+        ensures none { IfNone result
+            ((n : ℕ) → slice_get (table_ids self.now) n ≡ Some id.now → ⊥) }
     {
         match self.table.get_full(id.as_str()) {
             Some((number, _, kind)) => Some((number, *kind)),
@@ -90,8 +93,8 @@ impl<'d> Numbers<'d> {
     }
 }
 
-/// Numbers the elements of a net: the net, then its pages, nodes and arcs in document order. The first one
-/// whose id an earlier element has is refused.
+/// Numbers the elements of a net: the net, then its pages, nodes and arcs in document order. The
+/// first one whose id an earlier element has is refused.
 pub fn number<'d>(alloc: Global, net: &'d NetTree) -> Result<Numbers<'d>, FlatFault>
     ensures numbered { IfOk result (λ numbers. numbers ≡ entries net.now) }
     ensures distinct { IfOk result (λ numbers. AreDistinct (table_ids numbers)) }
@@ -112,6 +115,15 @@ struct Entry<'d> {
     kind: Option<NodeKind>,
 }
 
+impl<'d> Entry<'d> {
+    fn new(id: &'d Text, kind: Option<NodeKind>) -> Entry<'d>
+        ensures id { result.id.now ≡ id.now }
+        ensures kind { result.kind ≡ kind }
+    {
+        Entry { id, kind }
+    }
+}
+
 /// The element that begins with an item, if one does.
 fn entry_of_item(item: &Item) -> Option<Entry<'_>>
     ensures { option_map (λ entry. (entry.id.now, entry.kind)) result ≡ item_entry item.now }
@@ -119,30 +131,12 @@ fn entry_of_item(item: &Item) -> Option<Entry<'_>>
     let places = Some(NodeKind::OfPlaces);
     let transitions = Some(NodeKind::OfTransitions);
     match item {
-        Item::Page(page) => Some(Entry {
-            id: &page.id,
-            kind: None,
-        }),
+        Item::Page(page) => Some(Entry::new(&page.id, None)),
         Item::PageEnd => None,
-        Item::Place(node) => Some(Entry {
-            id: &node.id,
-            kind: places,
-        }),
-        Item::Transition(node) => Some(Entry {
-            id: &node.id,
-            kind: transitions,
-        }),
-        Item::RefPlace(node) => Some(Entry {
-            id: &node.id,
-            kind: places,
-        }),
-        Item::RefTransition(node) => Some(Entry {
-            id: &node.id,
-            kind: transitions,
-        }),
-        Item::Arc(arc) => Some(Entry {
-            id: &arc.id,
-            kind: None,
-        }),
+        Item::Place(node) => Some(Entry::new(&node.id, places)),
+        Item::Transition(node) => Some(Entry::new(&node.id, transitions)),
+        Item::RefPlace(node) => Some(Entry::new(&node.id, places)),
+        Item::RefTransition(node) => Some(Entry::new(&node.id, transitions)),
+        Item::Arc(arc) => Some(Entry::new(&arc.id, None)),
     }
 }

@@ -48,7 +48,8 @@ fn check_mention(
 ) -> Result<(), FlatFault>
     requires { AreDistinct (table_ids numbers.now) }
     ensures ok { OnOk result (IsKnown numbers.now record { id = id.now; by = by.now }) }
-    ensures fault { IfErr result (IsFirstUnknown numbers.now (record { id = id.now; by = by.now } ∷ [])) }
+    ensures fault { IfErr result
+        (IsFirstUnknown numbers.now (record { id = id.now; by = by.now } ∷ [])) }
 {
     match numbers.node(id) {
         Some(_) => Ok(()),
@@ -59,7 +60,8 @@ fn check_mention(
 /// Refuses the first reference node that names a node of the other kind.
 pub fn check_kinds(alloc: Global, items: &[Item], numbers: &Numbers<'_>) -> Result<(), FlatFault>
     requires { AreDistinct (table_ids numbers.now) }
-    ensures ok { OnOk result (AllByRecursion (NamesItsKind numbers.now) (flat_map references items.now)) }
+    ensures ok { OnOk result
+        (AllByRecursion (NamesItsKind numbers.now) (flat_map references items.now)) }
     ensures fault { IfErr result (IsFirstOfWrongKind numbers.now (flat_map references items.now)) }
 {
     for item in items {
@@ -90,7 +92,8 @@ fn check_kind(
 ) -> Result<(), FlatFault>
     requires { AreDistinct (table_ids numbers.now) }
     ensures ok { OnOk result (NamesItsKind numbers.now (reference_of kind node.now)) }
-    ensures fault { IfErr result (IsFirstOfWrongKind numbers.now (reference_of kind node.now ∷ [])) }
+    ensures fault { IfErr result
+        (IsFirstOfWrongKind numbers.now (reference_of kind node.now ∷ [])) }
 {
     if names_node(&node.target, kind, numbers) {
         Ok(())
@@ -102,7 +105,9 @@ fn check_kind(
 /// Whether a node of this kind has the id.
 fn names_node(id: &Text, kind: NodeKind, numbers: &Numbers<'_>) -> bool
     requires { AreDistinct (table_ids numbers.now) }
-    ensures { MatchBool result (NamesNode numbers.now id.now kind) (NamesNode numbers.now id.now kind → ⊥) }
+    ensures { MatchBool result
+        (NamesNode numbers.now id.now kind)
+        (NamesNode numbers.now id.now kind → ⊥) }
 {
     match numbers.node(id) {
         Some((_, found)) => found == kind,

@@ -1,0 +1,161 @@
+-- The definitions determine the answer: two first members without a property are one, two resolved ends of an
+-- id are one, so there is one first broken rule and one flat net.
+use Rattle.std.proofs.Common.{◌≡◌, refl, sym, ap, ◌∙◌, subst, ℕ, zero, suc, ◌<◌, List, [], ◌∷◌, ◌++◌, Some, length, map, slice_get, sum_by, inl, inr, arith}
+use Rattle.std.specs.List.{flat_map, AllByRecursion, AllZip}
+use Rattle.std.proofs.lemmas.Bool.{cases_lt}
+use Rattle.net_values.specs.declared.document.NetTree.{NetTree}
+use Rattle.net_values.specs.declared.document.ArcNode.{ArcNode}
+use Rattle.page_flatten.specs.declared.fault.FlatFault.{FlatFault}
+use Rattle.page_flatten.specs.declared.fault.FlatFault.TheVariants.{NoMemory, DuplicateId, UnknownId, RefKind, RefCycle, ArcEnds}
+use Rattle.page_flatten.specs.declared.node.End.{End}
+use Rattle.page_flatten.specs.declared.node.End.TheVariants.{AtPlace, AtTransition}
+use Rattle.page_flatten.specs.Elements.{Element, Role, Real, Reference, elements, Mention, ReferenceTo, mentions, references, arcs}
+use Rattle.page_flatten.specs.Chains.{Resolves, to_itself, to_what_it_names}
+use Rattle.page_flatten.specs.Rules.{AreDistinct, ids_of, IsFirstWithout, IsFirstRepeated, FirstBrokenOf}
+use Rattle.page_flatten.specs.Flat.{FlatArc, IsResolved, weight_between}
+use Rattle.page_flatten.specs.Laws.{HasOneFault, BreaksWhereFaulty, HasOneFlatNet}
+use Rattle.page_flatten.proofs.Lists.{some_is, within, get_map, get_front}
+use Rattle.page_flatten.proofs.Passes.{each_behind}
+
+first_is_first : {X : Type 0} (P : X → Type 0) (f g b c : List X) (x y : X) → f ++ x ∷ b ≡ g ++ y ∷ c → AllByRecursion P f → AllByRecursion P g → (P x → ⊥) → (P y → ⊥) → x ≡ y
+first_is_first P [] [] b c x y e good other no_x no_y = cc
+first_is_first P [] (z ∷ g) b c x y e good other no_x no_y = let head : z ≡ x = cc in absurd (no_x (subst P head other.0))
+first_is_first P (z ∷ f) [] b c x y e good other no_x no_y = let head : z ≡ y = cc in absurd (no_y (subst P head good.0))
+first_is_first P (z ∷ f) (w ∷ g) b c x y e good other no_x no_y =
+    let rest : f ++ x ∷ b ≡ g ++ y ∷ c = cc in
+    first_is_first P f g b c x y rest good.1 other.1 no_x no_y
+
+-- two first members without the property are one
+one_first : {X : Type 0} (P : X → Type 0) (xs : List X) (x y : X) → IsFirstWithout P xs x → IsFirstWithout P xs y → x ≡ y
+one_first P xs x y a b = first_is_first P a.front b.front a.back b.back x y (sym a.stands ∙ b.stands) a.before b.before a.lacks b.lacks
+
+-- and there is none where each has it
+none_first : {X : Type 0} (P : X → Type 0) (xs : List X) (x : X) → AllByRecursion P xs → IsFirstWithout P xs x → ⊥
+none_first P xs x all first = first.lacks (each_behind P first.front (x ∷ first.back) (subst (AllByRecursion P) first.stands all)).1.0
+
+get_back : {X : Type 0} (xs ys : List X) (x : X) → slice_get (xs ++ x ∷ ys) (length xs) ≡ Some x
+get_back [] ys x = refl
+get_back (z ∷ xs) ys x = get_back xs ys x
+
+get_of_front : {X : Type 0} (xs ys : List X) (n : ℕ) (x : X) → n < length xs → slice_get (xs ++ ys) n ≡ Some x → slice_get xs n ≡ Some x
+get_of_front [] ys n x below at = absurd (omega arith)
+get_of_front (z ∷ xs) ys zero x below at = at
+get_of_front (z ∷ xs) ys (suc n) x below at = get_of_front xs ys n x (omega arith) at
+
+-- where the one front is the shorter, the other one repeats an id
+longer_repeats : (ids : List (List ℕ)) (x y : List ℕ) (a : IsFirstRepeated ids x) (b : IsFirstRepeated ids y) → length a.front < length b.front → ⊥
+longer_repeats ids x y a b shorter =
+    let whole : a.front ++ x ∷ a.back ≡ b.front ++ y ∷ b.back = sym a.stands ∙ b.stands in
+    let before = within a.front a.place x a.repeated in
+    let here : slice_get b.front (length a.front) ≡ Some x =
+    get_of_front b.front (y ∷ b.back) (length a.front) x shorter (ap (λ l. slice_get l (length a.front)) (sym whole) ∙ get_back a.front a.back x) in
+    let early : slice_get b.front a.place ≡ Some x =
+    get_of_front b.front (y ∷ b.back) a.place x (omega arith) (ap (λ l. slice_get l a.place) (sym whole) ∙ get_front a.front (x ∷ a.back) a.place x a.repeated) in
+    let same : a.place ≡ length a.front = b.before a.place (length a.front) x early here in
+    omega arith
+
+one_repeated : (ids : List (List ℕ)) (x y : List ℕ) → IsFirstRepeated ids x → IsFirstRepeated ids y → x ≡ y
+one_repeated ids x y a b =
+    elim (cases_lt (length a.front) (length b.front)) [
+      | inl shorter ↦ absurd (longer_repeats ids x y a b shorter)
+      | inr from ↦ elim (cases_lt (length b.front) (length a.front)) [
+        | inl shorter ↦ absurd (longer_repeats ids y x b a shorter)
+        | inr also ↦
+            let whole : a.front ++ x ∷ a.back ≡ b.front ++ y ∷ b.back = sym a.stands ∙ b.stands in
+            let long : length a.front ≡ length b.front = omega arith in
+            some_is (sym (get_back a.front a.back x) ∙ ap (λ l. slice_get l (length a.front)) whole ∙ ap (λ n. slice_get (b.front ++ y ∷ b.back) n) long ∙ get_back b.front b.back y)
+      ]
+    ]
+
+none_repeated : (ids : List (List ℕ)) (x : List ℕ) → AreDistinct ids → IsFirstRepeated ids x → ⊥
+none_repeated ids x distinct a =
+    let before = within a.front a.place x a.repeated in
+    let early : slice_get ids a.place ≡ Some x = ap (λ l. slice_get l a.place) a.stands ∙ get_front a.front (x ∷ a.back) a.place x a.repeated in
+    let here : slice_get ids (length a.front) ≡ Some x = ap (λ l. slice_get l (length a.front)) a.stands ∙ get_back a.front a.back x in
+    let same : a.place ≡ length a.front = distinct a.place (length a.front) x early here in
+    omega arith
+
+module _ (net : NetTree) where
+  one_fault_of : (one other : FlatFault) → FirstBrokenOf net one → FirstBrokenOf net other → one ≡ other
+  one_fault_of NoMemory other a b = absurd a
+  one_fault_of one NoMemory a b = absurd b
+  one_fault_of (DuplicateId x) (DuplicateId y) a b = ap DuplicateId (one_repeated (ids_of net) x y a b)
+  one_fault_of (DuplicateId x) (UnknownId y z) a b = absurd (none_repeated (ids_of net) x b.0 a)
+  one_fault_of (DuplicateId x) (RefKind y) a b = absurd (none_repeated (ids_of net) x b.0 a)
+  one_fault_of (DuplicateId x) (RefCycle y) a b = absurd (none_repeated (ids_of net) x b.0 a)
+  one_fault_of (DuplicateId x) (ArcEnds y) a b = absurd (none_repeated (ids_of net) x b.0 a)
+  one_fault_of (UnknownId x z) (DuplicateId y) a b = absurd (none_repeated (ids_of net) y a.0 b)
+  one_fault_of (UnknownId x z) (UnknownId y w) a b = ap (λ (m : Mention). UnknownId m.id m.by) (one_first _ (flat_map mentions net.items) record { id = x; by = z } record { id = y; by = w } a.1 b.1)
+  one_fault_of (UnknownId x z) (RefKind y) a b = absurd (none_first _ (flat_map mentions net.items) record { id = x; by = z } b.1 a.1)
+  one_fault_of (UnknownId x z) (RefCycle y) a b = absurd (none_first _ (flat_map mentions net.items) record { id = x; by = z } b.1 a.1)
+  one_fault_of (UnknownId x z) (ArcEnds y) a b = absurd (none_first _ (flat_map mentions net.items) record { id = x; by = z } b.1 a.1)
+  one_fault_of (RefKind x) (DuplicateId y) a b = absurd (none_repeated (ids_of net) y a.0 b)
+  one_fault_of (RefKind x) (UnknownId y w) a b = absurd (none_first _ (flat_map mentions net.items) record { id = y; by = w } a.1 b.1)
+  one_fault_of (RefKind x) (RefKind y) a b = ap RefKind (sym a.4 ∙ ap (λ (r : ReferenceTo). r.id) (one_first _ (flat_map references net.items) a.2 b.2 a.3 b.3) ∙ b.4)
+  one_fault_of (RefKind x) (RefCycle y) a b = absurd (none_first _ (flat_map references net.items) a.2 b.2 a.3)
+  one_fault_of (RefKind x) (ArcEnds y) a b = absurd (none_first _ (flat_map references net.items) a.2 b.2 a.3)
+  one_fault_of (RefCycle x) (DuplicateId y) a b = absurd (none_repeated (ids_of net) y a.0 b)
+  one_fault_of (RefCycle x) (UnknownId y w) a b = absurd (none_first _ (flat_map mentions net.items) record { id = y; by = w } a.1 b.1)
+  one_fault_of (RefCycle x) (RefKind y) a b = absurd (none_first _ (flat_map references net.items) b.2 a.2 b.3)
+  one_fault_of (RefCycle x) (RefCycle y) a b = ap RefCycle (sym a.5 ∙ ap (λ (r : ReferenceTo). r.id) (one_first _ (flat_map references net.items) a.3 b.3 a.4 b.4) ∙ b.5)
+  one_fault_of (RefCycle x) (ArcEnds y) a b = absurd (none_first _ (flat_map references net.items) a.3 b.3 a.4)
+  one_fault_of (ArcEnds x) (DuplicateId y) a b = absurd (none_repeated (ids_of net) y a.0 b)
+  one_fault_of (ArcEnds x) (UnknownId y w) a b = absurd (none_first _ (flat_map mentions net.items) record { id = y; by = w } a.1 b.1)
+  one_fault_of (ArcEnds x) (RefKind y) a b = absurd (none_first _ (flat_map references net.items) b.2 a.2 b.3)
+  one_fault_of (ArcEnds x) (RefCycle y) a b = absurd (none_first _ (flat_map references net.items) b.3 a.3 b.4)
+  one_fault_of (ArcEnds x) (ArcEnds y) a b = ap ArcEnds (sym a.6 ∙ ap (λ (r : ArcNode). r.id) (one_first _ (flat_map arcs net.items) a.4 b.4 a.5 b.5) ∙ b.6)
+
+pub one_fault : HasOneFault
+one_fault document one other a b = one_fault_of document.net one other a b
+
+pub breaks_where_faulty : BreaksWhereFaulty
+breaks_where_faulty document NoMemory h keeps = absurd h
+breaks_where_faulty document (DuplicateId x) h keeps = none_repeated (ids_of document.net) x keeps.ids h
+breaks_where_faulty document (UnknownId x y) h keeps = none_first _ (flat_map mentions document.net.items) record { id = x; by = y } keeps.mentions h.1
+breaks_where_faulty document (RefKind x) h keeps = none_first _ (flat_map references document.net.items) h.2 keeps.kinds h.3
+breaks_where_faulty document (RefCycle x) h keeps = none_first _ (flat_map references document.net.items) h.3 keeps.chains h.4
+breaks_where_faulty document (ArcEnds x) h keeps = none_first _ (flat_map arcs document.net.items) h.4 keeps.arcs h.5
+
+abbrev element : List ℕ → Role → Element
+element id role = record { id = id; role = role }
+
+module _ (list : List Element) (distinct : AreDistinct (map (λ (e : Element). e.id) list)) where
+  -- one id is that of one element
+  one_role : (m n : ℕ) (id : List ℕ) (a b : Role) → slice_get list m ≡ Some (element id a) → slice_get list n ≡ Some (element id b) → a ≡ b
+  one_role m n id a b at also =
+      let same : m ≡ n = distinct m n id (get_map (λ (e : Element). e.id) list m (element id a) at) (get_map (λ (e : Element). e.id) list n (element id b) also) in
+      ap (λ (e : Element). e.role) (some_is (sym at ∙ subst (λ k. slice_get list k ≡ Some (element id b)) (sym same) also))
+
+  -- so it resolves to one end
+  one_end_of : (id : List ℕ) (a b : End) → Resolves list id a → Resolves list id b → a ≡ b
+  one_end_of id a b (to_itself m _ _ at) (to_itself n _ _ also) = let e : Real a ≡ Real b = one_role m n id (Real a) (Real b) at also in cc
+  one_end_of id a b (to_itself m _ _ at) (to_what_it_names n _ kind target _ also rest) = let e : Real a ≡ Reference kind target = one_role m n id (Real a) (Reference kind target) at also in absurd cc
+  one_end_of id a b (to_what_it_names m _ kind target _ at rest) (to_itself n _ _ also) = let e : Reference kind target ≡ Real b = one_role m n id (Reference kind target) (Real b) at also in absurd cc
+  one_end_of id a b (to_what_it_names m _ kind target _ at rest) (to_what_it_names n _ other goal _ also behind) =
+      let e : Reference kind target ≡ Reference other goal = one_role m n id (Reference kind target) (Reference other goal) at also in
+      let same : goal ≡ target = cc in
+      one_end_of target a b rest (subst (λ t. Resolves list t b) same behind)
+
+  one_resolved : (arcs : List ArcNode) (xs ys : List FlatArc) → AllZip (IsResolved list) arcs xs → AllZip (IsResolved list) arcs ys → xs ≡ ys
+  one_resolved [] [] [] a b = refl
+  one_resolved [] [] (y ∷ ys) a b = absurd b
+  one_resolved [] (x ∷ xs) ys a b = absurd a
+  one_resolved (arc ∷ arcs) [] ys a b = absurd a
+  one_resolved (arc ∷ arcs) (x ∷ xs) [] a b = absurd b
+  one_resolved (arc ∷ arcs) (x ∷ xs) (y ∷ ys) a b =
+      let source = one_end_of arc.source x.source y.source a.0.source b.0.source in
+      let target = one_end_of arc.target x.target y.target a.0.target b.0.target in
+      let weight = a.0.weight ∙ sym b.0.weight in
+      let rest = one_resolved arcs xs ys a.1 b.1 in
+      λ i. record { source = source i; target = target i; weight = weight i } ∷ rest i
+
+pub one_flat : HasOneFlatNet
+one_flat document one other keeps a b =
+    let same = one_resolved (elements document.net) keeps.ids (flat_map arcs document.net.items) a.flat_arcs b.flat_arcs a.resolved b.resolved in
+    record {
+      places = a.places ∙ sym b.places;
+      transitions = a.transitions ∙ sym b.transitions;
+      pre = λ p t. a.pre p t ∙ ap (sum_by (weight_between (AtPlace p) (AtTransition t))) same ∙ sym (b.pre p t);
+      post = λ p t. a.post p t ∙ ap (sum_by (weight_between (AtTransition t) (AtPlace p))) same ∙ sym (b.post p t);
+      count = a.count ∙ sym b.count;
+    }

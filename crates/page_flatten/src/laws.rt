@@ -1,0 +1,16 @@
+ghost use Rattle.page_flatten.specs.Laws.{HasOneFault, BreaksWhereFaulty, HasOneFlatNet};
+
+/// A document has at most one first broken rule, named with one choice of ids.
+pub fn one_first_broken_rule()
+    ensures { HasOneFault }
+{}
+
+/// Where a rule is named as broken, the document breaks a rule.
+pub fn no_fault_where_no_rule_is_broken()
+    ensures { BreaksWhereFaulty }
+{}
+
+/// A document that breaks no rule has at most one flat net.
+pub fn one_flat_net()
+    ensures { HasOneFlatNet }
+{}
