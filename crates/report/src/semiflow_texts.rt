@@ -9,6 +9,9 @@ use crate::nodes::Nodes;
 use net_values::{FlatNet, NoMemory, Rows, Text, Vector};
 use std::alloc::Global;
 
+/// The least entry that a line tells.
+const LEAST_TOLD: u128 = 1;
+
 /// The text of `places`: a line for each semiflow of places, with its positive entries in order, each as its
 /// number, `*` and the id of its place, and last how many there are.
 pub fn place_semiflows_text(alloc: Global, net: &FlatNet, rows: &Rows) -> Result<Text, NoMemory>
@@ -76,7 +79,7 @@ impl Lines {
     {
         let mut is_first = true;
         for i in 0..entries.len() {
-            if entries[i] > 0 {
+            if entries[i] >= LEAST_TOLD {
                 self.push_space(is_first)?;
                 self.push_term(entries[i], nodes.id(net, i))?;
                 is_first = false;
