@@ -49,10 +49,11 @@ pub record HasWritten (pieces : List (List ℕ)) (old new : Option (List ℕ)) (
 pub piece_fails : (a b c : Option (List ℕ)) (i : ℕ) (pieces : List (List ℕ)) (piece : List ℕ) → slice_get pieces i ≡ Some piece
     → Appends a b (joined (take i pieces)) → AppendsFront b c piece → AppendsFront a c (joined pieces)
 piece_fails a b c i pieces piece at first second =
-    let front = joined (take i pieces) in
-    (length front + min second.0 (length piece),
-    subst (Appends a c) (front_of front piece (joined (drop (suc i) pieces)) second.0 ∙ ap (take (length front + min second.0 (length piece))) (sym (joined_at i pieces piece at)))
-    (Appends-trans a b c _ _ first second.1))
+    let front = joined (take i pieces) in (
+      length front + min second.0 (length piece),
+      subst (Appends a c) (front_of front piece (joined (drop (suc i) pieces)) second.0 ∙ ap (take (length front + min second.0 (length piece))) (sym (joined_at i pieces piece at)))
+          (Appends-trans a b c _ _ first second.1),
+    )
 
 -- what stands at an index of a list of references
 pub piece_at : (pieces : List (Bor (List ℕ))) (i : ℕ) (d : Bor (List ℕ)) → i < length pieces

@@ -3,9 +3,9 @@ ghost use Rattle.struct_core.specs.declared.order.Order.{Order as Ordered};
 ghost use Rattle.struct_core.specs.Outcome.{Outcome, TaskOutcome};
 ghost use Rattle.struct_core.specs.Answers.{FailsWith};
 
+use crate::closed::{siphons, traps};
 use crate::order::{Budgets, Order, Task};
 use crate::refusal::Refusal;
-use crate::closed::{siphons, traps};
 use crate::semiflows::{places, transitions};
 use net_class::class;
 use net_values::{Document, FlatNet, Text};
@@ -26,12 +26,7 @@ pub(crate) fn answer(alloc: Global, order: Order, bytes: &[u8]) -> Result<Text, 
 }
 
 /// The text of a task for an input.
-fn answer_task(
-    alloc: Global,
-    task: Task,
-    budgets: Budgets,
-    bytes: &[u8],
-) -> Result<Text, Refusal>
+fn answer_task(alloc: Global, task: Task, budgets: Budgets, bytes: &[u8]) -> Result<Text, Refusal>
     ensures text { IfOk result (Outcome (Ordered.Run task budgets) bytes.now 0) }
     ensures refused { IfErr result (FailsWith (Outcome (Ordered.Run task budgets) bytes.now)) }
 {

@@ -119,12 +119,7 @@ fn tell_wide<O: Sink>(sink: &mut O, words: &[u8], id: &Text) -> Result<(), Write
 }
 
 #[tactic(auto, unfolding(crate::specs::Lines::budget_line))]
-fn tell_budget<O: Sink>(
-    sink: &mut O,
-    budget: u32,
-    id: &Text,
-    count: u64,
-) -> Result<(), WriteFault>
+fn tell_budget<O: Sink>(sink: &mut O, budget: u32, id: &Text, count: u64) -> Result<(), WriteFault>
     ensures whole { OnOk result (Appends (O.held sink.old) (O.held sink.new) (budget_line budget id.now count)) }
     ensures cut { OnErr result (AppendsFront (O.held sink.old) (O.held sink.new) (budget_line budget id.now count)) }
     ensures cause { HasCause (O.faults sink.old) (O.faults sink.new) result }
