@@ -13,7 +13,6 @@ pub mod Reading
 pub mod Canon
 pub mod Valued
 pub mod ValuedTests
-pub mod Plain
 pub mod Elements
 pub mod Numerals
 pub mod Trees

@@ -7,3 +7,4 @@ pub mod Enumerations
 pub mod Outcome
 pub mod Answers
 pub mod Run
+pub mod Laws

@@ -3,6 +3,7 @@
 
 mod answer;
 mod closed;
+mod laws;
 mod order;
 mod refusal;
 mod running;
@@ -10,6 +11,7 @@ mod semiflows;
 mod telling;
 mod words;
 
+pub use laws::{canonical_text_stays, printed_sets_are_closed, printed_vectors_are_semiflows};
 pub use order::{Budgets, Order, Task};
 pub use running::run;
 pub use words::{Words, read_words};

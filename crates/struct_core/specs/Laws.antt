@@ -1,0 +1,53 @@
+-- What the outcomes of runs tell.
+use Rattle.std.specs.Prelude.{◌≡◌, ◌≢◌, ◌⊎◌, ℕ, List, Bool, All, length, slice_index, codes}
+use Rattle.net_values.specs.declared.document.Document.{Document}
+use Rattle.net_values.specs.FlatNets.{NetLists, net_of}
+use Rattle.net_values.specs.Net.{Net}
+use Rattle.net_values.specs.PlaceSets.{has}
+use Rattle.closed_sets.specs.ClosedSets.{IsSiphon, IsTrap}
+use Rattle.incidence.specs.Matrix.{Matrix, incidence_of, transposed}
+use Rattle.incidence.specs.Semiflow.{all_columns, IsSemiflow}
+use Rattle.pnml_grammar.specs.Canon.{canon}
+use Rattle.pnml_grammar.specs.Valued.{Valued}
+use Rattle.page_flatten.specs.Rules.{BreaksNoRule}
+use Rattle.report.specs.Nodes.{place_id, transition_id}
+use Rattle.report.specs.Texts.{semiflows_text, sets_text}
+use Rattle.struct_core.specs.declared.order.Task.TheVariants as tasks
+use Rattle.struct_core.specs.declared.order.Budgets.{Budgets}
+use Rattle.struct_core.specs.declared.order.Order.TheVariants.{Run}
+use Rattle.struct_core.specs.Outcome.{TaskOutcome, Outcome}
+
+-- an entry for each row of the matrix, and a semiflow
+pub record IsSemiflowRow (m : Matrix) (row : List ℕ) : Type 0 where
+  pub size : length row ≡ m.rows
+  pub semiflow : IsSemiflow m all_columns (slice_index row)
+
+-- the text lists vectors with the property, or sets
+abbrev pub ListsVectors : (ℕ → List ℕ) → (List ℕ → Type 0) → List ℕ → Type 0
+ListsVectors ids Property text = (list : List (List ℕ)) × All Property list × (text ≡ semiflows_text ids list)
+
+abbrev pub ListsSets : List ℕ → (ℕ → List ℕ) → (List Bool → Type 0) → List ℕ → Type 0
+ListsSets word ids Property text = (list : List (List Bool)) × All Property list × (text ≡ sets_text word ids list)
+
+-- every vector that `places` and `transitions` print is a semiflow
+abbrev pub PrintSemiflows : Type 0
+PrintSemiflows =
+    (budgets : Budgets) (document : Document) (net : NetLists) (text : List ℕ)
+    → (TaskOutcome tasks.Places budgets document net 0 text → ListsVectors (place_id net) (IsSemiflowRow (incidence_of (net_of net))) text)
+    × (TaskOutcome tasks.Transitions budgets document net 0 text
+    → ListsVectors (transition_id net) (IsSemiflowRow (transposed (incidence_of (net_of net)))) text)
+
+-- every set that `siphons` prints is a siphon, and every set that `traps` prints a trap
+abbrev pub PrintClosedSets : Type 0
+PrintClosedSets =
+    (budgets : Budgets) (document : Document) (net : NetLists) (text : List ℕ)
+    → (TaskOutcome tasks.Siphons budgets document net 0 text
+    → ListsSets (codes "siphons") (place_id net) (λ set. IsSiphon (net_of net) (has set)) text)
+    × (TaskOutcome tasks.Traps budgets document net 0 text
+    → ListsSets (codes "traps") (place_id net) (λ set. IsTrap (net_of net) (has set)) text)
+
+-- `canon` of the canonical text of a valued document that breaks no rule writes that text
+abbrev pub CanonStays : Type 0
+CanonStays =
+    (budgets : Budgets) (document : Document) (status : ℕ) (text : List ℕ) → Valued document → BreaksNoRule document
+    → Outcome (Run tasks.Canon budgets) (canon document) status text → (status ≡ 0) × (text ≡ canon document)
