@@ -1,4 +1,3 @@
-use net_values::NoMemory;
 use pnml_grammar::Reason;
 
 /// Why bytes give no document.
@@ -12,15 +11,4 @@ pub enum DocFault {
     At(u64, Reason),
     /// No place is at fault, and the bytes end, after so many, before the document is whole.
     Truncated(u64),
-}
-
-impl From<NoMemory> for DocFault {
-    ghost use Rattle.std.specs.Prelude.{◌≡◌};
-    ghost use Rattle.pnml_decode.specs.declared.fault.DocFault.TheVariants.{NoMemory as Memory};
-
-    ghost from_gives = { λ _ fault. fault ≡ Memory };
-
-    fn from(_refusal: NoMemory) -> DocFault {
-        DocFault::NoMemory
-    }
 }
