@@ -14,8 +14,8 @@ mod valued;
 mod walk;
 
 pub use element::{AttributeKind, Context, ElementKind};
-pub use legal::{is_legal_character, is_legal_text};
 pub use law::{canonical_text_tells_documents_apart, one_answer, one_document, one_token};
+pub use legal::{is_legal_character, is_legal_text};
 pub use names::{ATTRIBUTES, ELEMENTS, Names, find, find_in};
 pub use reason::{Counted, Reason};
 pub use token::{Attribute, Attributes, Token};
