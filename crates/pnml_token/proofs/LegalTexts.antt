@@ -1,12 +1,15 @@
--- The test of a whole spelling, by the standard library's test of UTF-8.
-use Rattle.std.proofs.Common.{◌≡◌, ℕ, Bool, false, List, Option, Some, None, Ok, sym, ap, ◌∙◌, inl, inr}
-use Rattle.std.specs.Prelude.{chars, IsUtf8, ok_or}
+-- The test of a whole spelling, by the standard library's test of UTF-8; one of ASCII is its own characters.
+use Rattle.std.proofs.Common.{◌≡◌, ℕ, ◌<◌, Bool, true, false, List, [], ◌∷◌, Option, Some, None, Ok, refl, sym, ap, ◌∙◌, inl, inr, arith}
+use Rattle.std.specs.Prelude.{chars, IsUtf8, IsAscii, ok_or}
 use Rattle.std.specs.List.{list_all}
 use Rattle.std.specs.Str.{is_utf8}
-use Rattle.std.proofs.lemmas.Bool.{cases_Bool, and_left}
-use Rattle.std.proofs.lemmas.Str.{IsUtf8-from_is_utf8, is_utf8-from_IsUtf8}
+use Rattle.std.proofs.lemmas.Bool.{cases_Bool, and_left, and_parts, and_from}
+use Rattle.std.proofs.lemmas.Bool.Decides.{nat_tests}
+use Rattle.std.proofs.lemmas.Str.{IsUtf8-from_is_utf8, is_utf8-from_IsUtf8, IsUtf8-from_ascii, chars-IsAscii}
+use Rattle.std.proofs.lemmas.Str.Ascii.{IsAscii-nil, IsAscii-cons}
 use Rattle.pnml_grammar.specs.Resolving.{is_legal_character}
 use Rattle.pnml_grammar.specs.Reading.{is_legal}
+use Rattle.pnml_token.specs.Classes.{is_plain_byte}
 
 pub legal_text : (text bytes : List ℕ) (b : Bool) → (text ≡ bytes) × IsUtf8 bytes → b ≡ list_all is_legal_character (chars text) → b ≡ is_legal bytes
 unfolding is_legal
@@ -24,3 +27,30 @@ no_legal_text bytes h =
 pub ok_some : {A E : Type 0} (o : Option A) (e : E) (x : A) → Ok x ≡ ok_or o e → o ≡ Some x
 ok_some None e x is = absurd cc
 ok_some (Some y) e x is = cc
+
+-- ---- ASCII
+
+plain_is_ascii : (b : ℕ) → is_plain_byte b ≡ true → b < 128
+plain_is_ascii b e = grind (arith, nat_tests)
+
+plain_is_legal : (b : ℕ) → is_plain_byte b ≡ true → is_legal_character b ≡ true
+plain_is_legal b e = grind (arith, nat_tests)
+
+plain_are_ascii : (bytes : List ℕ) → list_all is_plain_byte bytes ≡ true → IsAscii bytes
+plain_are_ascii [] e = IsAscii-nil
+plain_are_ascii (b ∷ bytes) e =
+    let p = and_parts (is_plain_byte b) (list_all is_plain_byte bytes) e in
+    IsAscii-cons b bytes (plain_is_ascii b p.0) (plain_are_ascii bytes p.1)
+
+plain_are_legal : (bytes : List ℕ) → list_all is_plain_byte bytes ≡ true → list_all is_legal_character bytes ≡ true
+plain_are_legal [] e = refl
+plain_are_legal (b ∷ bytes) e =
+    let p = and_parts (is_plain_byte b) (list_all is_plain_byte bytes) e in
+    and_from (is_legal_character b) (list_all is_legal_character bytes) (plain_is_legal b p.0) (plain_are_legal bytes p.1)
+
+pub plain_text : (bytes : List ℕ) → list_all is_plain_byte bytes ≡ true → true ≡ is_legal bytes
+unfolding is_legal
+plain_text bytes e =
+    let ascii = plain_are_ascii bytes e in
+    sym (and_from (is_utf8 bytes) (list_all is_legal_character (chars bytes)) (is_utf8-from_IsUtf8 bytes (IsUtf8-from_ascii bytes ascii))
+    (ap (list_all is_legal_character) (chars-IsAscii bytes ascii) ∙ plain_are_legal bytes e))

@@ -1,5 +1,5 @@
 -- The bytes of each class of runs.
-use Rattle.std.specs.Prelude.{ℕ, Bool, not, ◌==◌, ◌||◌, ◌&&◌}
+use Rattle.std.specs.Prelude.{ℕ, Bool, not, ◌==◌, ◌||◌, ◌&&◌, nat_le, nat_lt}
 use Rattle.pnml_grammar.specs.Characters.{is_space}
 use Rattle.pnml_grammar.specs.Names.{is_name_byte}
 use Rattle.pnml_grammar.specs.Attributes.{is_value_byte}
@@ -16,3 +16,7 @@ in_class Text byte = is_text_byte byte
 in_class Reference byte = is_reference_byte byte
 in_class Line byte = not (byte == 13)
 in_class (Plain spaces) byte = not (byte == 13) && not (byte == 38) && not (spaces && (byte == 9 || byte == 10))
+
+-- a legal character of ASCII (XML 1.0, production 2, Char)
+abbrev pub is_plain_byte : ℕ → Bool
+is_plain_byte byte = nat_lt byte 128 && (nat_le 32 byte || byte == 9 || byte == 10 || byte == 13)

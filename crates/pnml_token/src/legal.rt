@@ -1,5 +1,7 @@
 ghost use Rattle.std.specs.Prelude.{◌≡◌};
+ghost use Rattle.std.specs.List.{list_all};
 ghost use Rattle.pnml_grammar.specs.Reading.{is_legal, is_spelling};
+ghost use Rattle.pnml_token.specs.Classes.{is_plain_byte};
 
 use pnml_grammar::is_legal_text;
 
@@ -14,7 +16,34 @@ pub(crate) fn is_spelling(bytes: &[u8]) -> bool
     bytes.len() <= SPELLING_LIMIT && is_legal(bytes)
 }
 
+/// Most spellings are legal characters of ASCII alone, and those need no decoding.
+#[tactic(auto, using(crate::proofs::LegalTexts::plain_text))]
 fn is_legal(bytes: &[u8]) -> bool
+    ensures { result ≡ is_legal bytes.now }
+{
+    are_plain(bytes) || are_legal(bytes)
+}
+
+/// Whether each byte is a legal character of ASCII. All bytes are looked at, so that the processor takes many
+/// at once.
+fn are_plain(bytes: &[u8]) -> bool
+    ensures { result ≡ list_all is_plain_byte bytes.now }
+{
+    let mut plain = true;
+    for byte in bytes {
+        plain = plain & is_plain_byte(*byte);
+    }
+    plain
+}
+
+/// A legal character of ASCII (XML 1.0, production 2, Char).
+fn is_plain_byte(byte: u8) -> bool
+    ensures { result ≡ is_plain_byte byte }
+{
+    byte < 128 && (32 <= byte || byte == b'\t' || byte == b'\n' || byte == b'\r')
+}
+
+fn are_legal(bytes: &[u8]) -> bool
     ensures { result ≡ is_legal bytes.now }
 {
     match std::str::from_utf8(bytes) {
