@@ -1,64 +1,57 @@
 #!/usr/bin/env python3
-"""Times `check` on plain documents of many sizes, the largest with as many bytes as an input may have.
+"""Times `check` on documents of 60 MB, beside `xmllint --stream` and Python's expat on the same files.
 
     bench/check.py [RUNS]
 
-Each document has the most places, transitions and arcs that are allowed; its ids grow with the size. A line
-tells the size, the best time of RUNS runs (by default 5), the throughput and the most memory of a run.
+The documents have the most places, transitions and arcs: `graphics` is mostly positions, `tools` mostly
+tool-specific parts, `names` mostly names, `plain` a document of these nodes alone. A line tells the size, the
+best processor time of RUNS runs (by default 3), the throughput, the most memory beyond the input, and how many
+times as long the two others take, `-` where they aren't there. Wanted are 100 MB/s and at most 300 MB.
 """
 import os
-import subprocess
+import shutil
 import sys
-import tempfile
 
-from measure import best
+from measure import best, built, load, written
+from nets import MOST_ARCS, MOST_NODES, largest
 
-ROOT = os.path.dirname(os.path.dirname(os.path.realpath(__file__)))
-PROGRAM = os.path.join(ROOT, "bin", "pnmlstruct")
-PLACES = TRANSITIONS = 2048
-ARCS = 65536
-FRONT = (
-    '<?xml version="1.0" encoding="UTF-8"?><pnml xmlns="http://www.pnml.org/version-2009/grammar/pnml">'
-    '<net id="n" type="http://www.pnml.org/version-2009/grammar/ptnet"><page id="page">'
-)
-REAR = "</page></net></pnml>\n"
-LARGEST = 64 << 20
+SIZE = 60_000_000
+EXPAT = "import sys, xml.parsers.expat as e; e.ParserCreate().ParseFile(sys.stdin.buffer)"
 
 
-def document(width):
-    """The bytes of a document whose ids have this many bytes."""
-    parts = [FRONT]
-    for i in range(PLACES):
-        name = ("p%d" % i).ljust(width, "_")
-        parts.append('<place id="%s"><initialMarking><text>%d</text></initialMarking></place>' % (name, i + 1))
-    for i in range(TRANSITIONS):
-        parts.append('<transition id="%s"/>' % ("t%d" % i).ljust(width, "_"))
-    for i in range(ARCS):
-        place = ("p%d" % (i % PLACES)).ljust(width, "_")
-        transition = ("t%d" % (i * 7 % TRANSITIONS)).ljust(width, "_")
-        parts.append(
-            '<arc id="%s" source="%s" target="%s"><inscription><text>%d</text></inscription></arc>'
-            % (("a%d" % i).ljust(width, "_"), place, transition, i + 2)
-        )
-    parts.append(REAR)
-    return "".join(parts).encode()
+def filled(unit, front="", rear=""):
+    """A document with the unit as often in each node and arc as gives its size."""
+    nodes = 2 * MOST_NODES + MOST_ARCS
+    bare = len(largest("").document()) // nodes
+    times = max(1, (SIZE // nodes - bare - len(front) - len(rear) - 20) // len(unit))
+    return largest(front + unit * times + rear).document()
+
+
+POSITION = '\n      <position x="120.5" y="-34.25"/>'
+PART = '\n      <property key="shape" kind="box"> 12.5 &lt; x </property><!-- drawn --><line/>'
+DOCUMENTS = {
+    "plain": lambda: largest("").document(),
+    "graphics": lambda: filled(POSITION, "\n    <graphics>", "</graphics>"),
+    "tools": lambda: filled(PART, '<toolspecific tool="editor" version="1.0">', "</toolspecific>"),
+    "names": lambda: filled("station \u00e9 &amp; buffer ", "<name><text>", "</text></name>"),
+}
 
 
 def main():
-    runs = int(sys.argv[1]) if len(sys.argv) > 1 else 5
-    subprocess.run([PROGRAM, "check"], input=b"", capture_output=True, check=False)  # builds the program
-    print("%10s %9s %9s %9s" % ("bytes", "seconds", "MB/s", "MB held"))
-    for width in (8, 64, 200, 298):
-        data = document(width)
-        if len(data) > LARGEST:
-            sys.exit("a document of %d bytes is too long" % len(data))
-        with tempfile.NamedTemporaryFile() as file:
-            file.write(data)
-            file.flush()
-            output, seconds, memory = best(runs, [PROGRAM, "check"], file.name)
-        if output != b"places %d transitions %d arcs %d\n" % (PLACES, TRANSITIONS, ARCS):
+    runs = int(sys.argv[1]) if len(sys.argv) > 1 else 3
+    program = built()
+    others = [["xmllint", "--stream", "--noout", "-"] if shutil.which("xmllint") else None, [sys.executable, "-c", EXPAT]]
+    answer = b"places %d transitions %d arcs %d\n" % (MOST_NODES, MOST_NODES, MOST_ARCS)
+    print(load())
+    print("%-9s %9s %8s %7s %9s %8s %8s" % ("document", "bytes", "seconds", "MB/s", "MB beyond", "xmllint", "expat"))
+    for name, make in DOCUMENTS.items():
+        with written(make) as file:
+            size = os.path.getsize(file.name)
+            output, seconds, memory = best(runs, [program, "check"], file.name)
+            ratios = ["%.2f" % (best(runs, other, file.name)[1] / seconds) if other else "-" for other in others]
+        if output != answer:
             sys.exit("check answered %r" % output)
-        print("%10d %9.3f %9.0f %9.0f" % (len(data), seconds, len(data) / seconds / 1e6, memory / 1e6))
+        print("%-9s %9d %8.3f %7.0f %9.0f %8s %8s" % (name, size, seconds, size / seconds / 1e6, (memory - size) / 1e6, *ratios), flush=True)
 
 
 if __name__ == "__main__":

@@ -1,34 +1,64 @@
-"""One timed run of a program, for the scripts of this folder."""
+"""Timed runs of a program, for the scripts of this folder."""
 import os
 import subprocess
 import tempfile
-import time
+
+PROGRAM = os.environ.get("PNMLSTRUCT") or os.path.join(
+    os.path.dirname(os.path.dirname(os.path.realpath(__file__))), "bin", "pnmlstruct"
+)
 
 
-def run(command, stdin=subprocess.DEVNULL):
-    """The output of the command, its time in seconds and its peak memory in bytes, which is at least that of
-    the interpreter that starts it, about 15 MB. The status has to be 0."""
+def built():
+    """The program that is measured: that of the variable PNMLSTRUCT, else that of this repository, which is
+    proved and built first."""
+    if "PNMLSTRUCT" in os.environ:
+        return PROGRAM
+    subprocess.run([PROGRAM, "check"], input=b"", capture_output=True, check=False)
+    return os.path.join(os.path.dirname(os.path.dirname(PROGRAM)), "crates", "pnmlstruct", "out", "pnmlstruct")
+
+
+def run(command, stdin=subprocess.DEVNULL, status=0):
+    """The output of the command, its processor time in seconds, which tells little of how busy the machine is,
+    and its peak memory in bytes, which is at least that of the interpreter that starts it, about 15 MB. It has
+    to end with this status."""
     with tempfile.TemporaryFile() as out:
-        start = time.perf_counter()
-        child = subprocess.Popen(command, stdin=stdin, stdout=out)
-        _, status, usage = os.wait4(child.pid, 0)
-        seconds = time.perf_counter() - start
-        child.returncode = os.waitstatus_to_exitcode(status)
-        if child.returncode != 0:
+        child = subprocess.Popen(command, stdin=stdin, stdout=out, stderr=subprocess.DEVNULL if status else None)
+        _, ended, usage = os.wait4(child.pid, 0)
+        child.returncode = os.waitstatus_to_exitcode(ended)
+        if child.returncode != status:
             raise SystemExit("%s ended with %d" % (command, child.returncode))
         out.seek(0)
-        return out.read(), seconds, usage.ru_maxrss * 1024
+        return out.read(), usage.ru_utime + usage.ru_stime, usage.ru_maxrss * 1024
 
 
-def best(runs, command, path=None):
+def best(runs, command, path=None, status=0):
     """The output, the best time and the most memory of this many runs, on a file as input where one is given."""
     times, memory, output = [], 0, b""
     for _ in range(runs):
         if path is None:
-            output, seconds, peak = run(command)
+            output, seconds, peak = run(command, status=status)
         else:
             with open(path, "rb") as source:
-                output, seconds, peak = run(command, source)
+                output, seconds, peak = run(command, source, status)
         times.append(seconds)
         memory = max(memory, peak)
     return output, min(times), memory
+
+
+def written(make):
+    """A file with the bytes that `make` gives. They are made in a process of their own, since the peak memory of
+    a run is at least that of the interpreter that starts it."""
+    file = tempfile.NamedTemporaryFile()
+    child = os.fork()
+    if child == 0:
+        with open(file.name, "wb") as out:
+            out.write(make())
+        os._exit(0)
+    if os.waitpid(child, 0)[1] != 0:
+        raise SystemExit("no document was made")
+    return file
+
+
+def load():
+    """How busy the machine is, for the head of a table."""
+    return "%d processors, load %.1f" % (os.cpu_count(), os.getloadavg()[0])
