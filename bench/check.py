@@ -8,11 +8,11 @@ tool-specific parts, `names` mostly names, `plain` a document of these nodes alo
 best processor time of RUNS runs (by default 3), the throughput, the most memory beyond the input, and how many
 times as long the two others take, `-` where they aren't there. Wanted are 100 MB/s and at most 300 MB.
 """
+import os
 import shutil
 import sys
-import tempfile
 
-from measure import best, built, load
+from measure import best, built, load, written
 from nets import MOST_ARCS, MOST_NODES, largest
 
 SIZE = 60_000_000
@@ -27,13 +27,14 @@ def filled(unit, front="", rear=""):
     return largest(front + unit * times + rear).document()
 
 
-def documents():
-    position = '\n      <position x="120.5" y="-34.25"/>'
-    part = '\n      <property key="shape" kind="box"> 12.5 &lt; x </property><!-- drawn --><line/>'
-    yield "plain", largest("").document()
-    yield "graphics", filled(position, "\n    <graphics>", "</graphics>")
-    yield "tools", filled(part, '<toolspecific tool="editor" version="1.0">', "</toolspecific>")
-    yield "names", filled("station \u00e9 &amp; buffer ", "<name><text>", "</text></name>")
+POSITION = '\n      <position x="120.5" y="-34.25"/>'
+PART = '\n      <property key="shape" kind="box"> 12.5 &lt; x </property><!-- drawn --><line/>'
+DOCUMENTS = {
+    "plain": lambda: largest("").document(),
+    "graphics": lambda: filled(POSITION, "\n    <graphics>", "</graphics>"),
+    "tools": lambda: filled(PART, '<toolspecific tool="editor" version="1.0">', "</toolspecific>"),
+    "names": lambda: filled("station \u00e9 &amp; buffer ", "<name><text>", "</text></name>"),
+}
 
 
 def main():
@@ -43,15 +44,13 @@ def main():
     answer = b"places %d transitions %d arcs %d\n" % (MOST_NODES, MOST_NODES, MOST_ARCS)
     print(load())
     print("%-9s %9s %8s %7s %9s %8s %8s" % ("document", "bytes", "seconds", "MB/s", "MB beyond", "xmllint", "expat"))
-    for name, data in documents():
-        with tempfile.NamedTemporaryFile() as file:
-            file.write(data)
-            file.flush()
+    for name, make in DOCUMENTS.items():
+        with written(make) as file:
+            size = os.path.getsize(file.name)
             output, seconds, memory = best(runs, [program, "check"], file.name)
             ratios = ["%.2f" % (best(runs, other, file.name)[1] / seconds) if other else "-" for other in others]
         if output != answer:
             sys.exit("check answered %r" % output)
-        size = len(data)
         print("%-9s %9d %8.3f %7.0f %9.0f %8s %8s" % (name, size, seconds, size / seconds / 1e6, (memory - size) / 1e6, *ratios), flush=True)
 
 

@@ -1,41 +1,40 @@
 #!/usr/bin/env python3
-"""Times flattening: 4,096 reference nodes in one chain, in 4,096 chains, on one cycle and leading into one,
-and 65,536 arcs whose ids have 1,000 bytes.
+"""Times `check` on documents that are hard to flatten: 4,096 reference nodes in one chain, in 4,096 chains, on
+one cycle and leading into one, and arcs with long ids.
 
     bench/flatten.py [RUNS]
 
-A line tells the shape, the size, the answer and the time of one flattening, the document being there already:
-the best time of RUNS runs (by default 5) that flatten it many times, less that of runs that flatten it once,
-for each time more. The last column is the most memory of a run, the document included.
+A line tells the shape, the bytes of the document, the status, the answer, and the best processor time of RUNS
+runs (by default 5) of the whole process with the most memory. `arcs` are 65,536 arcs with the longest ids that
+an input has room for, `long ids` as many arcs as ids of 1,000 bytes leave room for.
 """
 import os
-import subprocess
 import sys
 
-from measure import best
+from measure import best, built, load, written
+from nets import MOST_ARCS, referring, wide_arcs
 
-CRATE = os.path.join(os.path.dirname(os.path.dirname(os.path.realpath(__file__))), "crates", "flatten_count")
-PROGRAM = os.path.join(CRATE, "out", "flatten_count")
-# shape, size, how often it is flattened
+
 SHAPES = (
-    ("chain", 4096, 101),
-    ("chains", 4096, 101),
-    ("cycle", 4096, 101),
-    ("spokes", 4096, 101),
-    ("arcs", 65536, 11),
+    ("chain", lambda: referring("chain"), 0),
+    ("chains", lambda: referring("chains"), 0),
+    ("cycle", lambda: referring("cycle"), 3),
+    ("spokes", lambda: referring("spokes"), 3),
+    ("arcs", lambda: wide_arcs(MOST_ARCS, 328), 0),
+    ("long ids", lambda: wide_arcs(21_900, 1000), 0),
 )
 
 
 def main():
     runs = int(sys.argv[1]) if len(sys.argv) > 1 else 5
-    done = subprocess.run(["rt", "run", "--", "chain", "3", "2"], cwd=CRATE, stdin=subprocess.DEVNULL, capture_output=True, check=False)
-    if done.stdout != b"places 1 transitions 1 arcs 1\n":
-        sys.exit(done.stderr.decode())
-    print("%8s %8s %40s %9s %8s" % ("shape", "size", "answer", "seconds", "MB held"))
-    for shape, size, times in SHAPES:
-        answer, once, _ = best(runs, [PROGRAM, shape, str(size), "1"])
-        _, often, memory = best(runs, [PROGRAM, shape, str(size), str(times)])
-        print("%8s %8d %40s %9.5f %8.1f" % (shape, size, answer.decode().strip(), (often - once) / (times - 1), memory / 1e6))
+    program = built()
+    print(load())
+    print("%-9s %9s %6s %9s %8s  %s" % ("shape", "bytes", "status", "seconds", "MB held", "answer"))
+    for name, net, status in SHAPES:
+        with written(lambda: net().document()) as file:
+            size = os.path.getsize(file.name)
+            answer, seconds, memory = best(runs, [program, "check"], file.name, status)
+        print("%-9s %9d %6d %9.4f %8.1f  %s" % (name, size, status, seconds, memory / 1e6, answer.decode().strip()), flush=True)
 
 
 if __name__ == "__main__":

@@ -2,7 +2,6 @@
 import os
 import subprocess
 import tempfile
-import time
 
 PROGRAM = os.environ.get("PNMLSTRUCT") or os.path.join(
     os.path.dirname(os.path.dirname(os.path.realpath(__file__))), "bin", "pnmlstruct"
@@ -19,18 +18,17 @@ def built():
 
 
 def run(command, stdin=subprocess.DEVNULL, status=0):
-    """The output of the command, its time in seconds and its peak memory in bytes, which is at least that of
-    the interpreter that starts it, about 15 MB. It has to end with this status."""
+    """The output of the command, its processor time in seconds, which tells little of how busy the machine is,
+    and its peak memory in bytes, which is at least that of the interpreter that starts it, about 15 MB. It has
+    to end with this status."""
     with tempfile.TemporaryFile() as out:
-        start = time.perf_counter()
         child = subprocess.Popen(command, stdin=stdin, stdout=out, stderr=subprocess.DEVNULL if status else None)
         _, ended, usage = os.wait4(child.pid, 0)
-        seconds = time.perf_counter() - start
         child.returncode = os.waitstatus_to_exitcode(ended)
         if child.returncode != status:
             raise SystemExit("%s ended with %d" % (command, child.returncode))
         out.seek(0)
-        return out.read(), seconds, usage.ru_maxrss * 1024
+        return out.read(), usage.ru_utime + usage.ru_stime, usage.ru_maxrss * 1024
 
 
 def best(runs, command, path=None, status=0):
@@ -45,6 +43,20 @@ def best(runs, command, path=None, status=0):
         times.append(seconds)
         memory = max(memory, peak)
     return output, min(times), memory
+
+
+def written(make):
+    """A file with the bytes that `make` gives. They are made in a process of their own, since the peak memory of
+    a run is at least that of the interpreter that starts it."""
+    file = tempfile.NamedTemporaryFile()
+    child = os.fork()
+    if child == 0:
+        with open(file.name, "wb") as out:
+            out.write(make())
+        os._exit(0)
+    if os.waitpid(child, 0)[1] != 0:
+        raise SystemExit("no document was made")
+    return file
 
 
 def load():

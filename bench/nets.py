@@ -97,17 +97,15 @@ def fan(n):
 
 
 def token_ring(n):
-    """Stations that use the one token, or pass it on."""
+    """Stations in a ring, of which the one that has the token works and hands it on."""
     net = Net()
     for i in range(n):
         net.place("token%d" % i, 1 if i == 0 else 0)
         net.place("idle%d" % i, 1)
         net.place("busy%d" % i)
     for i in range(n):
-        here, there = "token%d" % i, "token%d" % ((i + 1) % n)
-        net.transition("use%d" % i, [here, "idle%d" % i], ["busy%d" % i])
-        net.transition("done%d" % i, ["busy%d" % i], ["idle%d" % i, there])
-        net.transition("pass%d" % i, [here], [there])
+        net.transition("use%d" % i, ["token%d" % i, "idle%d" % i], ["busy%d" % i])
+        net.transition("done%d" % i, ["busy%d" % i], ["idle%d" % i, "token%d" % ((i + 1) % n)])
     return net
 
 

@@ -3,3 +3,4 @@ pub mod Lists
 pub mod Giving
 pub mod LoopLaws
 pub mod Digits
+pub mod SkippedTags

@@ -11,7 +11,7 @@ use crate::elements::context_in;
 use crate::open::Open;
 use crate::stop::Stop;
 use net_values::{Document, List, NetTree, NoMemory, Text};
-use pnml_grammar::{Attributes, ElementKind, Token};
+use pnml_grammar::{Attributes, Context, ElementKind, Token};
 use std::alloc::Global;
 
 /// Reads a document token by token: the innermost open element, those around it from the outside
@@ -73,12 +73,25 @@ impl Reader {
             Token::Declaration | Token::Comment | Token::Instruction => Ok(()),
             Token::Cdata(value) => self.top.take_cdata(value),
             Token::Start(name, attributes) => self.open(name, attributes),
-            Token::Empty(name, attributes) => {
+            Token::Empty(name, attributes) => self.take_empty(name, attributes),
+            Token::End(_) => self.close(),
+            Token::Characters(value) => self.top.take_characters(value),
+        }
+    }
+
+    /// Opens an element and closes it. In a skipped part this leaves all as it is.
+    #[tactic(auto, using(crate::proofs::SkippedTags::skipped_empty))]
+    fn take_empty(&mut self, name: Text, attributes: Attributes) -> Result<(), NoMemory>
+        requires { HasRoom self.old.top.context (counted self.old.counts) (element_named name) }
+        ensures { OnOk result (
+            view self.new ≡ close_element (open_element (view self.old) name attributes)) }
+    {
+        match self.top.context {
+            Context::Skipped => Ok(()),
+            _ => {
                 self.open(name, attributes)?;
                 self.close()
             }
-            Token::End(_) => self.close(),
-            Token::Characters(value) => self.top.take_characters(value),
         }
     }
 

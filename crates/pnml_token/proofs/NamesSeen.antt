@@ -1,5 +1,5 @@
 -- The set of the names seen so far tells whether a name is one of them.
-use Rattle.std.proofs.Common.{◌≡◌, ℕ, ◌+◌, ◌<◌, ◌≤◌, Bool, true, false, cond, List, [], ◌∷◌, length, get_or, drop, map, refl, sym, ap, ◌∙◌, Bor}
+use Rattle.std.proofs.Common.{◌≡◌, ℕ, ◌+◌, ◌<◌, ◌≤◌, Bool, true, false, cond, List, [], ◌∷◌, length, get_or, drop, map, refl, sym, ap, ◌∙◌, Bor, arith}
 use Rattle.std.specs.Prelude.{not, ◌||◌, ◌&&◌, bytes_eq}
 use Rattle.std.specs.List.{list_any}
 use Rattle.std.specs.Ordering.{is_eq, nat_cmp}
@@ -66,3 +66,10 @@ seen_more s n settings i d added lt h is new updates =
 
 pub seen_all : (s : BTreeSet (Bor (List ℕ))) (settings : List Lent) (i : ℕ) → length settings ≤ i → Seen s settings i → true ≡ are_new [] (map setting_name (views settings))
 seen_all s settings i le h = ap (λ (t : List Setting). are_new h.names (map setting_name t)) (sym (views_all settings i le)) ∙ h.left
+
+-- ---- at most one name
+
+pub distinct_few : (settings : List Lent) → length settings < 2 → true ≡ are_new [] (map setting_name (views settings))
+distinct_few [] lt = refl
+distinct_few (s ∷ []) lt = refl
+distinct_few (s ∷ t ∷ rest) lt = absurd (omega arith)

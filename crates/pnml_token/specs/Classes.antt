@@ -19,4 +19,4 @@ in_class (Plain spaces) byte = not (byte == 13) && not (byte == 38) && not (spac
 
 -- a legal character of ASCII (XML 1.0, production 2, Char)
 abbrev pub is_plain_byte : ℕ → Bool
-is_plain_byte byte = nat_lt byte 128 && (nat_le 32 byte || byte == 9 || byte == 10 || byte == 13)
+is_plain_byte byte = (nat_le 32 byte && nat_lt byte 128) || byte == 10 || byte == 9 || byte == 13

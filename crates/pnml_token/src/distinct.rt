@@ -8,8 +8,18 @@ use std::alloc::Global;
 use std::collections::BTreeSet;
 
 /// Whether no name repeats another (XML 1.0, section 3.1, Unique Att Spec). It takes no more than n log n
-/// comparisons.
+/// comparisons, and no memory for up to two names.
 pub(crate) fn are_distinct(alloc: Global, settings: &[Setting<'_>]) -> Result<bool, NoMemory>
+    ensures { IfOk result (λ distinct. distinct ≡ are_new [] (map setting_name (views settings.now))) }
+{
+    match settings {
+        [] | [_] => Ok(true),
+        [first, second] => Ok(second.name != first.name),
+        _ => are_all_distinct(alloc, settings),
+    }
+}
+
+fn are_all_distinct(alloc: Global, settings: &[Setting<'_>]) -> Result<bool, NoMemory>
     ensures { IfOk result (λ distinct. distinct ≡ are_new [] (map setting_name (views settings.now))) }
 {
     let mut seen = BTreeSet::new(alloc);

@@ -24,23 +24,17 @@ fn is_legal(bytes: &[u8]) -> bool
     are_plain(bytes) || are_legal(bytes)
 }
 
-/// Whether each byte is a legal character of ASCII. All bytes are looked at, so that the processor takes many
-/// at once.
 fn are_plain(bytes: &[u8]) -> bool
     ensures { result ≡ list_all is_plain_byte bytes.now }
 {
-    let mut plain = true;
-    for byte in bytes {
-        plain = plain & is_plain_byte(*byte);
-    }
-    plain
+    bytes.iter().all(|byte| is_plain_byte(*byte))
 }
 
 /// A legal character of ASCII (XML 1.0, production 2, Char).
 fn is_plain_byte(byte: u8) -> bool
     ensures { result ≡ is_plain_byte byte }
 {
-    byte < 128 && (32 <= byte || byte == b'\t' || byte == b'\n' || byte == b'\r')
+    (32 <= byte && byte < 128) || byte == b'\n' || byte == b'\t' || byte == b'\r'
 }
 
 fn are_legal(bytes: &[u8]) -> bool
