@@ -1,214 +1,202 @@
-use crate::fixture::{CHECK, FRONT, NOT_PLAIN, REAR, Row, check_input, check_row, joined};
+use crate::fixture::{CHECK, Row, check_input, check_net, check_row, joined};
+use crate::nets::{CYCLE, HEAD, MUTEX, REAR};
 use net_values::NoMemory;
 use std::alloc::Global;
 use std::process::Abort;
 use std::test::Fail;
 
+const DECLARATION: &[u8] = b"<?xml version=\"1.0\" encoding=\"UTF-8\"?>";
+
+const ONE_PAGE: &[u8] =
+    b"<page id=\"g\"><place id=\"p\"><initialMarking><text>1</text></initialMarking></place><transition id=\"t\"/><arc id=\"a\" source=\"p\" target=\"t\"/></page>";
+
+/// A document that is spelled otherwise than its canonical text wherever it may be.
+const SPELLED: &[&[u8]] = &[
+    b"<?xml version='1.0' encoding='utf-8'?>\n",
+    b"<!-- c --><pnml xmlns='http://www.pnml.org/version-2009/grammar/pnml'>",
+    b"<net type='http://www.pnml.org/version-2009/grammar/ptnet' id='n'><place id='&#112;'>",
+    b"<graphics><position x='1' y='2'/></graphics>",
+    b"<name><graphics/><text>a<![CDATA[<]]></text></name></place></net></pnml>\n",
+];
+
 #[test]
-fn plain_documents_are_counted_and_written_as_they_are(rt: HostRuntime) -> Result<(), Fail> {
-    let rows: [(&'static [&'static [u8]], &'static [u8]); 6] = [
+fn documents_are_counted(rt: HostRuntime) -> Result<(), Fail> {
+    let rows: [(&'static str, &'static [&'static [u8]], &'static [u8]); 9] = [
         (
-            &[FRONT, b"<page id=\"g\"/>", REAR],
-            b"places 0 transitions 0 arcs 0\n",
-        ),
-        (
-            &[
-                FRONT,
-                b"<page id=\"g\"><place id=\"p\"><initialMarking><text>1</text></initialMarking></place><transition id=\"t\"/><arc id=\"a\" source=\"p\" target=\"t\"/></page>",
-                REAR,
-            ],
+            "one page",
+            &[DECLARATION, HEAD, ONE_PAGE, REAR, b"\n"],
             b"places 1 transitions 1 arcs 1\n",
         ),
         (
+            "no last line feed",
+            &[DECLARATION, HEAD, ONE_PAGE, REAR],
+            b"places 1 transitions 1 arcs 1\n",
+        ),
+        (
+            "an empty page",
+            &[DECLARATION, HEAD, b"<page id=\"g\"/>", REAR, b"\n"],
+            b"places 0 transitions 0 arcs 0\n",
+        ),
+        ("no item", &[HEAD, REAR], b"places 0 transitions 0 arcs 0\n"),
+        (
+            "a byte order mark",
+            &[b"\xef\xbb\xbf", DECLARATION, HEAD, ONE_PAGE, REAR],
+            b"places 1 transitions 1 arcs 1\n",
+        ),
+        (
+            "a marking of 2^64 - 1",
             &[
-                FRONT,
-                b"<page id=\"g\"><place id=\"p\"><initialMarking><text>18446744073709551615</text></initialMarking></place></page>",
+                HEAD,
+                b"<place id=\"p\"><initialMarking><text>18446744073709551615</text></initialMarking></place>",
                 REAR,
             ],
             b"places 1 transitions 0 arcs 0\n",
         ),
         (
+            "a weight of 2^64 - 1",
             &[
-                FRONT,
-                b"<page id=\"g\"><arc id=\"a\" source=\"x\" target=\"y\"><inscription><text>18446744073709551615</text></inscription></arc><transition id=\"y\"/></page>",
+                HEAD,
+                b"<transition id=\"t\"/><place id=\"p\"/><arc id=\"a\" source=\"t\" target=\"p\"><inscription><text>18446744073709551615</text></inscription></arc>",
                 REAR,
             ],
-            b"places 0 transitions 1 arcs 1\n",
+            b"places 1 transitions 1 arcs 1\n",
         ),
         (
-            &[
-                FRONT,
-                b"<page id=\"A-z_0.9\"><place id=\".\"/><place id=\"-\"/><place id=\"_\"/></page>",
-                REAR,
-            ],
-            b"places 3 transitions 0 arcs 0\n",
+            "a letter of two bytes in an id",
+            &[HEAD, b"<place id=\"\xc3\xa9\"/>", REAR],
+            b"places 1 transitions 0 arcs 0\n",
         ),
         (
-            &[
-                FRONT,
-                b"<page id=\"g\"><place id=\"p\"/><place id=\"p\"/><arc id=\"p\" source=\"p\" target=\"p\"/></page>",
-                REAR,
-            ],
-            b"places 2 transitions 0 arcs 1\n",
+            "names, graphics, a part for one tool and indentation",
+            MUTEX,
+            b"places 5 transitions 4 arcs 12\n",
         ),
     ];
-    for (input, out) in rows {
+    for (shows, input, out) in rows {
         let row = Row {
-            shows: "the counts of a plain document",
+            shows,
             input,
             out,
             ..CHECK
         };
         check_row(&rt, rt.alloc(), &row)?;
-        written_again(&rt, rt.alloc(), input)?;
     }
-    Ok(())
-}
-
-/// An input that `canon` writes as it is.
-fn written_again(rt: &impl Abort, alloc: Global, input: &[&[u8]]) -> Result<(), NoMemory> {
-    let row = Row {
-        shows: "the canonical text of a plain document",
-        words: &["canon"],
+    let cycle = Row {
+        shows: "no page",
+        out: b"places 2 transitions 2 arcs 4\n",
         ..CHECK
     };
-    let wanted = joined(alloc, input)?;
-    check_input(rt, alloc, &row, joined(alloc, input)?, wanted.as_slice())
+    Ok(check_net(&rt, rt.alloc(), &CYCLE, &cycle)?)
 }
 
-/// An input that is no plain document's.
-fn refused(
+/// Runs `canon` on an input, and again on what it writes, which is the canonical text of a net with these
+/// items.
+fn written(
     rt: &impl Abort,
     alloc: Global,
     shows: &'static str,
     input: &[&[u8]],
+    pieces: &'static [usize],
+    items: &[u8],
 ) -> Result<(), NoMemory> {
     let row = Row {
         shows,
-        input,
-        status: 3,
-        err: NOT_PLAIN,
+        words: &["canon"],
+        pieces,
         ..CHECK
     };
-    check_row(rt, alloc, &row)
+    let wanted = joined(alloc, &[DECLARATION, HEAD, items, REAR, b"\n"])?;
+    let again = joined(alloc, &[wanted.as_slice()])?;
+    check_input(rt, alloc, &row, joined(alloc, input)?, wanted.as_slice())?;
+    check_input(rt, alloc, &row, again, wanted.as_slice())
 }
 
 #[test]
-fn other_documents_are_refused(rt: HostRuntime) -> Result<(), Fail> {
-    let empty: &[u8] = b"<page id=\"g\"/>";
-    let pages: [(&'static str, &'static [u8]); 26] = [
-        ("no page", b""),
-        ("a place without a page", b"<place id=\"p\"/>"),
-        ("an empty page of two tags", b"<page id=\"g\"></page>"),
-        ("two pages", b"<page id=\"g\"/><page id=\"h\"/>"),
+fn documents_are_written_canonically(rt: HostRuntime) -> Result<(), Fail> {
+    let rows: [(&'static str, &'static [u8], &'static [u8]); 15] = [
+        ("one page", ONE_PAGE, ONE_PAGE),
         (
-            "a page in a page",
-            b"<page id=\"g\"><page id=\"h\"/></page>",
+            "tags without content",
+            b"<page id=\"g\"></page><place id=\"p\"></place>",
+            b"<page id=\"g\"/><place id=\"p\"/>",
         ),
         (
-            "a page that isn't closed",
-            b"<page id=\"g\"><place id=\"p\"/>",
+            "pages in pages",
+            b"<page id='g'> <page id='h'/> <page id='i'><place id='p'/></page> </page>",
+            b"<page id=\"g\"><page id=\"h\"/><page id=\"i\"><place id=\"p\"/></page></page>",
         ),
         (
-            "a page with a name",
+            "a page with a name alone",
+            b"<page id=\"g\"><name><text>x</text></name></page>",
             b"<page id=\"g\"><name><text>x</text></name></page>",
         ),
         (
-            "a place with a name",
-            b"<page id=\"g\"><place id=\"p\"><name><text>x</text></name></place></page>",
+            "an empty name and none",
+            b"<place id=\"p\"><name><text/></name></place><place id=\"q\"><name/></place>",
+            b"<place id=\"p\"><name><text/></name></place><place id=\"q\"/>",
         ),
         (
-            "a reference",
-            b"<page id=\"g\"><referencePlace id=\"r\" ref=\"p\"/></page>",
-        ),
-        ("an empty id", b"<page id=\"g\"><place id=\"\"/></page>"),
-        (
-            "a colon in an id",
-            b"<page id=\"g\"><place id=\"a:b\"/></page>",
+            "white space and zeros in front of a number",
+            b"<place id=\"p\"><initialMarking><text> 007 </text></initialMarking></place>",
+            b"<place id=\"p\"><initialMarking><text>7</text></initialMarking></place>",
         ),
         (
-            "a letter beyond ASCII",
-            b"<page id=\"g\"><place id=\"\xc3\xa9\"/></page>",
+            "a written marking of 0 and one without a number",
+            b"<place id=\"p\"><initialMarking><text>0</text></initialMarking></place><place id=\"q\"><initialMarking/></place>",
+            b"<place id=\"p\"/><place id=\"q\"/>",
         ),
         (
-            "bytes that aren't UTF-8",
-            b"<page id=\"g\"><place id=\"\xff\"/></page>",
+            "a written weight of 1, and one in front of a name",
+            b"<place id=\"p\"/><transition id=\"t\"/><arc id=\"a\" source=\"p\" target=\"t\"><inscription><text>1</text></inscription></arc><arc id=\"b\" source=\"t\" target=\"p\"><inscription><text>2</text></inscription><name><text>x</text></name></arc>",
+            b"<place id=\"p\"/><transition id=\"t\"/><arc id=\"a\" source=\"p\" target=\"t\"/><arc id=\"b\" source=\"t\" target=\"p\"><name><text>x</text></name><inscription><text>2</text></inscription></arc>",
         ),
         (
-            "a space between items",
-            b"<page id=\"g\"> <place id=\"p\"/></page>",
+            "references to characters",
+            b"<place id=\"&#xE9;\"><name><text>&lt;&#38;&#x3e;&quot;&apos;&#9;&#10;&#13;</text></name></place>",
+            b"<place id=\"\xc3\xa9\"><name><text>&lt;&amp;&gt;&quot;'&#9;&#10;&#13;</text></name></place>",
         ),
         (
-            "a comment",
-            b"<page id=\"g\"><!-- c --><place id=\"p\"/></page>",
+            "line ends in a name",
+            b"<place id=\"p\"><name><text>a\r\nb\rc</text></name></place>",
+            b"<place id=\"p\"><name><text>a&#10;b&#10;c</text></name></place>",
         ),
         (
-            "an id in single quotes",
-            b"<page id=\"g\"><place id='p'/></page>",
+            "attributes in another order",
+            b"<place id=\"p\"/><transition id=\"t\"/><arc target=\"t\" source=\"p\" id=\"a\"/>",
+            b"<place id=\"p\"/><transition id=\"t\"/><arc id=\"a\" source=\"p\" target=\"t\"/>",
         ),
         (
-            "a written marking of 0",
-            b"<page id=\"g\"><place id=\"p\"><initialMarking><text>0</text></initialMarking></place></page>",
+            "comments, instructions and white space",
+            b" <!-- c --><place id=\"p\" ><?i?></place >\t<?x y?>\r\n<transition id = \"t\" />",
+            b"<place id=\"p\"/><transition id=\"t\"/>",
         ),
         (
-            "a leading zero",
-            b"<page id=\"g\"><place id=\"p\"><initialMarking><text>01</text></initialMarking></place></page>",
+            "attributes that are ignored",
+            b"<place id=\"p\" x:y=\"z\" xmlns=\"http://www.pnml.org/version-2009/grammar/pnml\"/>",
+            b"<place id=\"p\"/>",
         ),
         (
-            "a sign",
-            b"<page id=\"g\"><place id=\"p\"><initialMarking><text>+1</text></initialMarking></place></page>",
+            "parts that are skipped",
+            b"<toolspecific tool=\"x\"><place id=\"p\"/>y<![CDATA[<]]></toolspecific><place id=\"p\"><graphics/></place>",
+            b"<place id=\"p\"/>",
         ),
         (
-            "a marking above the range",
-            b"<page id=\"g\"><place id=\"p\"><initialMarking><text>18446744073709551616</text></initialMarking></place></page>",
-        ),
-        (
-            "an empty marking",
-            b"<page id=\"g\"><place id=\"p\"><initialMarking><text></text></initialMarking></place></page>",
-        ),
-        (
-            "a written weight of 1",
-            b"<page id=\"g\"><arc id=\"a\" source=\"p\" target=\"t\"><inscription><text>1</text></inscription></arc></page>",
-        ),
-        (
-            "a weight of 0",
-            b"<page id=\"g\"><arc id=\"a\" source=\"p\" target=\"t\"><inscription><text>0</text></inscription></arc></page>",
-        ),
-        (
-            "target before source",
-            b"<page id=\"g\"><arc id=\"a\" target=\"t\" source=\"p\"/></page>",
-        ),
-        (
-            "an arc without a target",
-            b"<page id=\"g\"><arc id=\"a\" source=\"p\"/></page>",
-        ),
-        (
-            "an item behind the page",
-            b"<page id=\"g\"/><place id=\"p\"/>",
+            "references of both kinds",
+            b"<referenceTransition ref=\"t\" id=\"s\"/><referencePlace id=\"r\" ref=\"p\"></referencePlace><place id=\"p\"/><transition id=\"t\"/>",
+            b"<referenceTransition id=\"s\" ref=\"t\"/><referencePlace id=\"r\" ref=\"p\"/><place id=\"p\"/><transition id=\"t\"/>",
         ),
     ];
-    for (shows, page) in pages {
-        refused(&rt, rt.alloc(), shows, &[FRONT, page, REAR])?;
+    for (shows, items, canonical) in rows {
+        written(&rt, rt.alloc(), shows, &[HEAD, items, REAR], &[], canonical)?;
     }
-    refused(&rt, rt.alloc(), "no byte", &[])?;
-    refused(&rt, rt.alloc(), "no rear", &[FRONT, empty])?;
-    refused(&rt, rt.alloc(), "no front", &[empty, REAR])?;
-    refused(
+    let canonical = b"<place id=\"p\"><name><text>a&lt;</text></name></place>";
+    written(&rt, rt.alloc(), "another spelling", SPELLED, &[], canonical)?;
+    Ok(written(
         &rt,
         rt.alloc(),
-        "no last line feed",
-        &[FRONT, empty, b"</net></pnml>"],
-    )?;
-    refused(
-        &rt,
-        rt.alloc(),
-        "two line feeds",
-        &[FRONT, empty, REAR, b"\n"],
-    )?;
-    Ok(refused(
-        &rt,
-        rt.alloc(),
-        "a byte order mark",
-        &[b"\xef\xbb\xbf", FRONT, empty, REAR],
+        "another spelling in bytes",
+        SPELLED,
+        &[1],
+        canonical,
     )?)
 }

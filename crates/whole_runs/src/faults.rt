@@ -1,182 +1,281 @@
-use crate::fixture::{CHECK, FRONT, NOT_PLAIN, REAR, Row, USAGE, check_input, check_row, spaces};
+use crate::fixture::{CHECK, Row, check_input, check_row};
+use crate::nets::{HEAD, REAR};
+use net_values::NoMemory;
+use std::alloc::Global;
 use std::test::Fail;
 
+/// The tag of the root.
+const ROOT: &[u8] = b"<pnml xmlns=\"http://www.pnml.org/version-2009/grammar/pnml\">";
+
 #[test]
-fn words_and_devices_end_a_run_by_their_status(rt: HostRuntime) -> Result<(), Fail> {
-    let one_page: &[&[u8]] = &[FRONT, b"<page id=\"g\"><place id=\"p\"/></page>", REAR];
-    let rows = [
-        Row {
-            shows: "no words",
-            words: &[],
-            status: 2,
-            err: USAGE,
-            ..CHECK
-        },
-        Row {
-            shows: "an unknown word",
-            words: &["places"],
-            status: 2,
-            err: USAGE,
-            ..CHECK
-        },
-        Row {
-            shows: "a word more",
-            words: &["check", "check"],
-            status: 2,
-            err: USAGE,
-            ..CHECK
-        },
-        Row {
-            shows: "an option",
-            words: &["check", "--rows", "5"],
-            status: 2,
-            err: USAGE,
-            ..CHECK
-        },
-        Row {
-            shows: "help",
-            words: &["--help"],
-            status: 2,
-            err: USAGE,
-            ..CHECK
-        },
-        Row {
-            shows: "usage before a read",
-            words: &[],
-            failing_reads: &[0],
-            status: 2,
-            err: USAGE,
-            ..CHECK
-        },
-        Row {
-            shows: "one byte a read",
-            input: one_page,
-            pieces: &[1],
-            out: b"places 1 transitions 0 arcs 0\n",
-            ..CHECK
-        },
-        Row {
-            shows: "reads of many sizes",
-            input: one_page,
-            pieces: &[64, 0, 3],
-            out: b"places 1 transitions 0 arcs 0\n",
-            ..CHECK
-        },
-        Row {
-            shows: "the first read fails",
-            input: one_page,
-            failing_reads: &[0],
-            status: 8,
-            err: b"read fault\n",
-            ..CHECK
-        },
-        Row {
-            shows: "the second read fails",
-            input: &[
-                b"<x>                                                                                                    ",
+fn the_first_faulty_place_is_told(rt: HostRuntime) -> Result<(), Fail> {
+    let rows: [(&'static str, &'static [&'static [u8]], &'static [u8]); 28] = [
+        (
+            "a byte that is no UTF-8, behind a bad token",
+            &[HEAD, b"<place id=p/>\xff"],
+            b"document refused at 139: not UTF-8\n",
+        ),
+        (
+            "a tag that is cut",
+            &[HEAD, b"<place id=\"p"],
+            b"document refused at 126: bad token\n",
+        ),
+        (
+            "two attributes of one name",
+            &[HEAD, b"<place id=\"p\" id=\"p\"/>", REAR],
+            b"document refused at 126: bad token\n",
+        ),
+        (
+            "a document type",
+            &[b"<!DOCTYPE pnml>", HEAD, REAR],
+            b"document refused at 0: doctype\n",
+        ),
+        (
+            "an element in capitals",
+            &[HEAD, b"<Place id=\"p\"/>", REAR],
+            b"document refused at 126: unknown element\n",
+        ),
+        (
+            "a root without a namespace",
+            &[b"<pnml/>"],
+            b"document refused at 0: other namespace\n",
+        ),
+        (
+            "an element with another namespace",
+            &[HEAD, b"<place id=\"p\" xmlns=\"x\"/>", REAR],
+            b"document refused at 126: other namespace\n",
+        ),
+        (
+            "another type of net",
+            &[
+                ROOT,
+                b"<net id=\"n\" type=\"http://www.pnml.org/version-2009/grammar/symmetricnet\"/></pnml>",
             ],
-            pieces: &[64],
-            failing_reads: &[1],
-            status: 8,
-            err: b"read fault\n",
-            ..CHECK
-        },
-        Row {
-            shows: "the read at the end fails",
-            input: one_page,
-            failing_reads: &[1],
-            status: 8,
-            err: b"read fault\n",
-            ..CHECK
-        },
-        Row {
-            shows: "the first write fails",
-            input: one_page,
-            failing_writes: &[0],
-            status: 9,
-            err: b"write fault\n",
-            ..CHECK
-        },
-        Row {
-            shows: "the second write fails",
-            input: one_page,
-            failing_writes: &[1],
-            status: 9,
-            out: b"place",
-            err: b"write fault\n",
-            ..CHECK
-        },
-        Row {
-            shows: "a sink with room for four bytes",
-            input: one_page,
-            room: 4,
-            status: 9,
-            out: b"plac",
-            err: b"write fault\n",
-            ..CHECK
-        },
-        Row {
-            shows: "a line that can't be written",
-            failing_lines: &[0],
-            status: 3,
-            ..CHECK
-        },
-        Row {
-            shows: "a line that is cut",
-            failing_lines: &[1],
-            status: 3,
-            err: b"documen",
-            ..CHECK
-        },
-        Row {
-            shows: "a document to be written again that isn't plain",
-            words: &["canon"],
-            input: &[FRONT, b"<page id=\"g\"/></net></pnml>"],
-            status: 3,
-            err: NOT_PLAIN,
-            ..CHECK
-        },
-        Row {
-            shows: "a refused document",
-            input: &[b"<x/>"],
-            status: 3,
-            err: NOT_PLAIN,
-            ..CHECK
-        },
+            b"document refused at 60: other net type\n",
+        ),
+        (
+            "an arc with a type",
+            &[
+                HEAD,
+                b"<place id=\"p\"/><transition id=\"t\"/><arc id=\"a\" source=\"p\" target=\"t\" type=\"inhibitor\"/>",
+                REAR,
+            ],
+            b"document refused at 161: bad attribute\n",
+        ),
+        (
+            "an arc without a target",
+            &[HEAD, b"<place id=\"p\"/><arc id=\"a\" source=\"p\"/>", REAR],
+            b"document refused at 141: bad attribute\n",
+        ),
+        (
+            "an empty id",
+            &[HEAD, b"<place id=\"\"/>", REAR],
+            b"document refused at 126: bad attribute\n",
+        ),
+        (
+            "a marking of 2^64",
+            &[
+                HEAD,
+                b"<place id=\"p\"><initialMarking><text>18446744073709551616</text></initialMarking></place>",
+                REAR,
+            ],
+            b"document refused at 162: bad number\n",
+        ),
+        (
+            "a weight of 0",
+            &[
+                HEAD,
+                b"<place id=\"p\"/><transition id=\"t\"/><arc id=\"a\" source=\"p\" target=\"t\"><inscription><text>0</text></inscription></arc>",
+                REAR,
+            ],
+            b"document refused at 214: bad number\n",
+        ),
+        (
+            "an empty number",
+            &[
+                HEAD,
+                b"<place id=\"p\"><initialMarking><text/></initialMarking></place>",
+                REAR,
+            ],
+            b"document refused at 156: bad number\n",
+        ),
+        (
+            "no number",
+            &[
+                HEAD,
+                b"<place id=\"p\"><initialMarking><text> </text></initialMarking></place>",
+                REAR,
+            ],
+            b"document refused at 163: bad number\n",
+        ),
+        (
+            "a late declaration",
+            &[HEAD, b"<?xml version=\"1.0\"?>", REAR],
+            b"document refused at 126: misplaced\n",
+        ),
+        (
+            "an element out of place",
+            &[HEAD, b"<text/>", REAR],
+            b"document refused at 126: misplaced\n",
+        ),
+        (
+            "another root",
+            &[b"<page id=\"g\"/>"],
+            b"document refused at 0: misplaced\n",
+        ),
+        (
+            "an element after the root",
+            &[HEAD, REAR, b"<graphics/>"],
+            b"document refused at 139: misplaced\n",
+        ),
+        (
+            "a second net",
+            &[
+                HEAD,
+                b"</net><net id=\"m\" type=\"http://www.pnml.org/version-2009/grammar/ptnet\"/></pnml>",
+            ],
+            b"document refused at 132: misplaced\n",
+        ),
+        (
+            "a second name",
+            &[HEAD, b"<place id=\"p\"><name/><name/></place>", REAR],
+            b"document refused at 147: misplaced\n",
+        ),
+        (
+            "stray characters",
+            &[HEAD, b"x", REAR],
+            b"document refused at 126: misplaced\n",
+        ),
+        (
+            "a stray CDATA section",
+            &[HEAD, b"<![CDATA[ ]]>", REAR],
+            b"document refused at 126: misplaced\n",
+        ),
+        (
+            "an end tag without its start",
+            &[HEAD, b"</page>", REAR],
+            b"document refused at 126: misplaced\n",
+        ),
+        (
+            "a root without a net",
+            &[ROOT, b"</pnml>"],
+            b"document refused at 60: misplaced\n",
+        ),
+        ("no byte", &[], b"document refused at 0: truncated\n"),
+        (
+            "the front alone",
+            &[HEAD],
+            b"document refused at 126: truncated\n",
+        ),
+        (
+            "no end of the root",
+            &[HEAD, b"</net>"],
+            b"document refused at 132: truncated\n",
+        ),
     ];
-    for row in &rows {
-        check_row(&rt, rt.alloc(), row)?;
+    for (shows, input, err) in rows {
+        let row = Row {
+            shows,
+            input,
+            status: 3,
+            err,
+            ..CHECK
+        };
+        check_row(&rt, rt.alloc(), &row)?;
     }
     Ok(())
 }
 
+/// A piece that may stand so many times in a net.
+#[derive(Drop)]
+struct Limit {
+    shows: &'static str,
+    before: &'static [u8],
+    piece: &'static [u8],
+    count: usize,
+    next: &'static [u8],
+    err: &'static [u8],
+}
+
+/// The front of a net up to where one more piece than may stand begins, and the next piece.
+fn crowded(alloc: Global, limit: &Limit) -> Result<Vec<u8>, NoMemory> {
+    let mut bytes = Vec::from_slice(alloc, HEAD)?;
+    bytes.extend_from_slice(limit.before)?;
+    for _ in 0..limit.count {
+        bytes.extend_from_slice(limit.piece)?;
+    }
+    bytes.extend_from_slice(limit.next)?;
+    Ok(bytes)
+}
+
 #[test]
-fn one_byte_above_the_limit_is_too_long(rt: HostRuntime) -> Result<(), Fail> {
-    let longest = Row {
-        shows: "as many spaces as may be read",
-        status: 3,
-        err: NOT_PLAIN,
-        ..CHECK
-    };
-    check_input(
-        &rt,
-        rt.alloc(),
-        &longest,
-        spaces(rt.alloc(), 67_108_864)?,
-        b"",
-    )?;
-    let longer = Row {
-        shows: "one more",
-        status: 7,
-        err: b"input too long\n",
-        ..CHECK
-    };
-    check_input(
-        &rt,
-        rt.alloc(),
-        &longer,
-        spaces(rt.alloc(), 67_108_865)?,
-        b"",
-    )?;
+fn one_more_than_a_limit_is_told(rt: HostRuntime) -> Result<(), Fail> {
+    let limits = [
+        Limit {
+            shows: "places",
+            before: b"",
+            piece: b"<place id=\"p\"/>",
+            count: 2_048,
+            next: b"<place id=\"p\"/>",
+            err: b"document refused at 30846: too many places\n",
+        },
+        Limit {
+            shows: "transitions",
+            before: b"",
+            piece: b"<transition id=\"t\"/>",
+            count: 2_048,
+            next: b"<transition id=\"t\"/>",
+            err: b"document refused at 41086: too many transitions\n",
+        },
+        Limit {
+            shows: "arcs",
+            before: b"",
+            piece: b"<arc id=\"a\" source=\"p\" target=\"t\"/>",
+            count: 65_536,
+            next: b"<arc id=\"a\" source=\"p\" target=\"t\"/>",
+            err: b"document refused at 2293886: too many arcs\n",
+        },
+        Limit {
+            shows: "reference nodes",
+            before: b"<referenceTransition id=\"r\" ref=\"t\"/>",
+            piece: b"<referencePlace id=\"r\" ref=\"p\"/>",
+            count: 4_095,
+            next: b"<referencePlace id=\"r\" ref=\"p\"/>",
+            err: b"document refused at 131203: too many reference nodes\n",
+        },
+        Limit {
+            shows: "pages",
+            before: b"",
+            piece: b"<page id=\"g\"/>",
+            count: 1_024,
+            next: b"<page id=\"g\"/>",
+            err: b"document refused at 14462: too many pages\n",
+        },
+        Limit {
+            shows: "bytes of a name",
+            before: b"<place id=\"p\"><name><text>",
+            piece: b"x",
+            count: 65_536,
+            next: b"x</text></name></place>",
+            err: b"document refused at 152: too many name bytes\n",
+        },
+        Limit {
+            shows: "open elements",
+            before: b"",
+            piece: b"<page id=\"g001\">",
+            count: 126,
+            next: b"<page id=\"g127\">",
+            err: b"document refused at 2142: too deep\n",
+        },
+    ];
+    for limit in &limits {
+        let row = Row {
+            shows: limit.shows,
+            status: 3,
+            err: limit.err,
+            ..CHECK
+        };
+        check_input(&rt, rt.alloc(), &row, crowded(rt.alloc(), limit)?, b"")?;
+    }
     Ok(())
 }

@@ -1,16 +1,9 @@
+use crate::nets::{Net, document};
 use net_values::{NoMemory, Text};
 use pnml_source::{MemorySink, MemorySource};
 use std::alloc::Global;
 use std::process::Abort;
 use struct_core::{Words, run};
-
-/// The front of a plain document, up to the tag of its page.
-pub const FRONT: &[u8] =
-    b"<?xml version=\"1.0\" encoding=\"UTF-8\"?><pnml xmlns=\"http://www.pnml.org/version-2009/grammar/pnml\"><net id=\"n\" type=\"http://www.pnml.org/version-2009/grammar/ptnet\">";
-/// The rear of a plain document, behind its page.
-pub const REAR: &[u8] = b"</net></pnml>\n";
-
-pub const NOT_PLAIN: &[u8] = b"document refused: not plain\n";
 
 pub const USAGE: &[u8] = b"usage: pnmlstruct TASK [--rows N] [--sets N], or pnmlstruct sample N\n";
 
@@ -68,14 +61,14 @@ pub fn joined(alloc: Global, parts: &[&[u8]]) -> Result<Vec<u8>, NoMemory> {
     Ok(bytes)
 }
 
-/// An input of many spaces.
-pub fn spaces(alloc: Global, count: usize) -> Result<Vec<u8>, NoMemory> {
-    Ok(vec![in alloc; b' '; count]?)
-}
-
 /// Runs a row, and compares what it leaves.
 pub fn check_row(rt: &impl Abort, alloc: Global, row: &Row<'_>) -> Result<(), NoMemory> {
     check_input(rt, alloc, row, joined(alloc, row.input)?, row.out)
+}
+
+/// Runs a row on a net.
+pub fn check_net(rt: &impl Abort, alloc: Global, net: &Net, row: &Row<'_>) -> Result<(), NoMemory> {
+    check_input(rt, alloc, row, document(alloc, net)?, row.out)
 }
 
 /// Runs a row on an input and with an output of its own.

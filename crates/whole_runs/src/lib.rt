@@ -3,8 +3,20 @@
 #![tactic(auto)]
 
 #[cfg(test)]
+mod classes;
+#[cfg(test)]
+mod closed_sets;
+#[cfg(test)]
+mod devices;
+#[cfg(test)]
 mod documents;
 #[cfg(test)]
 mod faults;
 #[cfg(test)]
 mod fixture;
+#[cfg(test)]
+mod flattening;
+#[cfg(test)]
+mod nets;
+#[cfg(test)]
+mod semiflows;

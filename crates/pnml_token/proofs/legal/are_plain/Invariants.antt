@@ -1,7 +1,0 @@
-use Rattle.std.proofs.Common.{◌≡◌, take}
-use Rattle.std.specs.List.{list_all}
-use Rattle.pnml_token.specs.Classes.{is_plain_byte}
-use Rattle.pnml_token.proofs.legal.are_plain.Given as goal
-
-abbrev pub invariant-loop-byte : goal.invariant-loop-byte
-invariant-loop-byte l = l.plain ≡ list_all is_plain_byte (take l.byte-index l.bytes)

@@ -1,0 +1,257 @@
+use net_values::NoMemory;
+use std::alloc::Global;
+
+/// What stands in front of the items of a net, in 60 and 66 bytes.
+pub const HEAD: &[u8] =
+    b"<pnml xmlns=\"http://www.pnml.org/version-2009/grammar/pnml\"><net id=\"n\" type=\"http://www.pnml.org/version-2009/grammar/ptnet\">";
+
+/// What stands behind them.
+pub const REAR: &[u8] = b"</net></pnml>";
+
+/// A net as a table: its places with their tokens, its transitions, and its arcs with their weights.
+#[derive(Clone, Copy)]
+pub struct Net {
+    pub places: &'static [(&'static str, u64)],
+    pub transitions: &'static [&'static str],
+    pub arcs: &'static [(&'static str, &'static str, u64)],
+}
+
+/// A token that goes round.
+pub const CYCLE: Net = Net {
+    places: &[("p", 1), ("q", 0)],
+    transitions: &["t", "u"],
+    arcs: &[("p", "t", 1), ("t", "q", 1), ("q", "u", 1), ("u", "p", 1)],
+};
+
+/// The same with weights.
+pub const SCALE: Net = Net {
+    places: &[("p", 5), ("q", 0)],
+    transitions: &["t", "u"],
+    arcs: &[("p", "t", 2), ("t", "q", 3), ("q", "u", 3), ("u", "p", 2)],
+};
+
+/// A combination of rows here has more places than it needs.
+pub const PRUNE: Net = Net {
+    places: &[("a", 0), ("b", 0), ("c", 0), ("d", 0)],
+    transitions: &["t1", "t2"],
+    arcs: &[
+        ("c", "t1", 1),
+        ("d", "t1", 1),
+        ("t1", "a", 1),
+        ("t1", "b", 1),
+        ("b", "t2", 1),
+        ("d", "t2", 1),
+        ("t2", "a", 1),
+        ("t2", "c", 1),
+    ],
+};
+
+/// Each transition makes 2^63 tokens of one.
+pub const CHAIN_OF_2: Net = Net {
+    places: &[("p1", 1), ("p2", 0), ("p3", 0)],
+    transitions: &["t1", "t2"],
+    arcs: &[
+        ("p1", "t1", 1),
+        ("t1", "p2", 9_223_372_036_854_775_808),
+        ("p2", "t2", 1),
+        ("t2", "p3", 9_223_372_036_854_775_808),
+    ],
+};
+
+pub const CHAIN_OF_3: Net = Net {
+    places: &[("p1", 1), ("p2", 0), ("p3", 0), ("p4", 0)],
+    transitions: &["t1", "t2", "t3"],
+    arcs: &[
+        ("p1", "t1", 1),
+        ("t1", "p2", 9_223_372_036_854_775_808),
+        ("p2", "t2", 1),
+        ("t2", "p3", 9_223_372_036_854_775_808),
+        ("p3", "t3", 1),
+        ("t3", "p4", 9_223_372_036_854_775_808),
+    ],
+};
+
+/// A chain of 2 whose first place, of which a semiflow has 2^126, is weighed twice.
+pub const WIDE_SUM: Net = Net {
+    places: &[("p1", 1), ("p2", 0), ("p3", 0)],
+    transitions: &["t1", "t2", "t3"],
+    arcs: &[
+        ("p1", "t1", 1),
+        ("t1", "p2", 9_223_372_036_854_775_808),
+        ("p2", "t2", 1),
+        ("t2", "p3", 9_223_372_036_854_775_808),
+        ("p1", "t3", 2),
+    ],
+};
+
+/// The rows here stay in range where both they and the differences are divided by their common divisors.
+pub const DIVIDED: Net = Net {
+    places: &[("p", 0), ("q", 0), ("r", 0), ("s", 0)],
+    transitions: &["t1", "t2", "t3"],
+    arcs: &[
+        ("p", "t1", 4),
+        ("t1", "q", 4),
+        ("q", "t2", 1),
+        ("t2", "r", 9_223_372_036_854_775_808),
+        ("r", "t3", 1),
+        ("t3", "s", 9_223_372_036_854_775_808),
+    ],
+};
+
+pub const LINE: Net = Net {
+    places: &[("p", 1), ("q", 0)],
+    transitions: &["t"],
+    arcs: &[("p", "t", 1), ("t", "q", 1)],
+};
+
+/// Places alone.
+pub const ISLES: Net = Net {
+    places: &[("a", 1), ("b", 1)],
+    transitions: &[],
+    arcs: &[],
+};
+
+/// A transition alone.
+pub const ALONE: Net = Net {
+    places: &[],
+    transitions: &["t"],
+    arcs: &[],
+};
+
+/// Two arcs from the same place to the same transition.
+pub const TWIN: Net = Net {
+    places: &[("p", 0), ("q", 0)],
+    transitions: &["t"],
+    arcs: &[("p", "t", 1), ("p", "t", 1), ("t", "q", 1)],
+};
+
+/// Two processes that exclude each other by a lock, as a tool writes them: with names, graphics, a part for
+/// one tool, a page, a written weight of 1 and a line for each node.
+pub const MUTEX: &[&[u8]] = &[
+    b"<?xml version=\"1.0\"?>\n",
+    b"<pnml xmlns=\"http://www.pnml.org/version-2009/grammar/pnml\">\n",
+    b"  <net id=\"Mutex\" type=\"http://www.pnml.org/version-2009/grammar/ptnet\">\n",
+    b"    <toolspecific tool=\"nupn\" version=\"1.1\">\n",
+    b"      <size places=\"5\" transitions=\"4\" arcs=\"12\"/>\n",
+    b"      <structure units=\"1\" root=\"u0\" safe=\"false\">\n",
+    b"        <unit id=\"u0\"><places>idle1 crit1 idle2 crit2 lock</places><subunits/></unit>\n",
+    b"      </structure>\n",
+    b"    </toolspecific>\n",
+    b"    <page id=\"page0\">\n",
+    b"      <name><text>DefaultPage</text></name>\n",
+    b"      <place id=\"idle1\"><graphics><position x=\"10\" y=\"20\"/></graphics><name><graphics><offset x=\"0\" y=\"-10\"/></graphics><text>idle 1</text></name><initialMarking><text>1</text></initialMarking></place>\n",
+    b"      <place id=\"crit1\"><name><text>critical 1</text></name></place>\n",
+    b"      <place id=\"idle2\"><name><text>idle 2</text></name><initialMarking><text>1</text></initialMarking></place>\n",
+    b"      <place id=\"crit2\"><name><text>critical 2</text></name></place>\n",
+    b"      <place id=\"lock\"><name><text>lock</text></name><initialMarking><text>1</text></initialMarking></place>\n",
+    b"      <transition id=\"enter1\"><name><text>enter 1</text></name></transition>\n",
+    b"      <transition id=\"leave1\"/>\n",
+    b"      <transition id=\"enter2\"/>\n",
+    b"      <transition id=\"leave2\"/>\n",
+    b"      <arc id=\"e1\" source=\"idle1\" target=\"enter1\"><inscription><text>1</text></inscription></arc>\n",
+    b"      <arc id=\"e2\" source=\"lock\" target=\"enter1\"/>\n",
+    b"      <arc id=\"e3\" source=\"enter1\" target=\"crit1\"/>\n",
+    b"      <arc id=\"e4\" source=\"crit1\" target=\"leave1\"/>\n",
+    b"      <arc id=\"e5\" source=\"leave1\" target=\"idle1\"/>\n",
+    b"      <arc id=\"e6\" source=\"leave1\" target=\"lock\"/>\n",
+    b"      <arc id=\"e7\" source=\"idle2\" target=\"enter2\"/>\n",
+    b"      <arc id=\"e8\" source=\"lock\" target=\"enter2\"/>\n",
+    b"      <arc id=\"e9\" source=\"enter2\" target=\"crit2\"/>\n",
+    b"      <arc id=\"e10\" source=\"crit2\" target=\"leave2\"/>\n",
+    b"      <arc id=\"e11\" source=\"leave2\" target=\"idle2\"/>\n",
+    b"      <arc id=\"e12\" source=\"leave2\" target=\"lock\"/>\n",
+    b"    </page>\n",
+    b"  </net>\n",
+    b"</pnml>\n",
+];
+
+/// The bytes of a net without pages, its arcs having the ids `a1`, `a2` and on.
+pub fn document(alloc: Global, net: &Net) -> Result<Vec<u8>, NoMemory> {
+    let mut bytes = Vec::from_slice(alloc, HEAD)?;
+    for (id, tokens) in net.places {
+        push_place(&mut bytes, id, *tokens)?;
+    }
+    for id in net.transitions {
+        let tag = format!(in alloc; "<transition id=\"{id}\"/>")?;
+        bytes.extend_from_slice(tag.as_bytes())?;
+    }
+    for (i, (source, target, weight)) in net.arcs.iter().enumerate() {
+        push_arc(&mut bytes, i + 1, source, target, *weight)?;
+    }
+    bytes.extend_from_slice(REAR)?;
+    Ok(bytes)
+}
+
+fn push_place(bytes: &mut Vec<u8>, id: &str, tokens: u64) -> Result<(), NoMemory> {
+    let alloc = *bytes.allocator();
+    let element = if tokens == 0 {
+        format!(in alloc; "<place id=\"{id}\"/>")?
+    } else {
+        format!(in alloc;
+            "<place id=\"{id}\"><initialMarking><text>{tokens}</text></initialMarking></place>"
+        )?
+    };
+    bytes.extend_from_slice(element.as_bytes())?;
+    Ok(())
+}
+
+fn push_arc(
+    bytes: &mut Vec<u8>,
+    number: usize,
+    source: &str,
+    target: &str,
+    weight: u64,
+) -> Result<(), NoMemory> {
+    let alloc = *bytes.allocator();
+    let ends = format!(in alloc; "<arc id=\"a{number}\" source=\"{source}\" target=\"{target}\"")?;
+    bytes.extend_from_slice(ends.as_bytes())?;
+    let rest = if weight == 1 {
+        format!(in alloc; "/>")?
+    } else {
+        format!(in alloc; "><inscription><text>{weight}</text></inscription></arc>")?
+    };
+    bytes.extend_from_slice(rest.as_bytes())?;
+    Ok(())
+}
+
+/// The bytes of a net whose one transition takes a token from each of so many places and gives one to each
+/// of as many.
+pub fn fan(alloc: Global, width: usize) -> Result<Vec<u8>, NoMemory> {
+    let mut bytes = Vec::from_slice(alloc, HEAD)?;
+    bytes.extend_from_slice(b"<transition id=\"t\"/>")?;
+    for i in 0..width {
+        let branch = format!(in alloc;
+            "<place id=\"i{i}\"/><arc id=\"from{i}\" source=\"i{i}\" target=\"t\"/><place id=\"o{i}\"/><arc id=\"to{i}\" source=\"t\" target=\"o{i}\"/>"
+        )?;
+        bytes.extend_from_slice(branch.as_bytes())?;
+    }
+    bytes.extend_from_slice(REAR)?;
+    Ok(bytes)
+}
+
+/// The bytes of a net with a place `p` and so many transitions that give it tokens, each from so many places
+/// of its own. A siphon with `p` has one of the places of each transition.
+pub fn choices(alloc: Global, transitions: usize, inputs: usize) -> Result<Vec<u8>, NoMemory> {
+    let mut bytes = Vec::from_slice(alloc, HEAD)?;
+    bytes.extend_from_slice(b"<place id=\"p\"/>")?;
+    for t in 0..transitions {
+        let giver = format!(in alloc;
+            "<transition id=\"t{t}\"/><arc id=\"to{t}\" source=\"t{t}\" target=\"p\"/>"
+        )?;
+        bytes.extend_from_slice(giver.as_bytes())?;
+        push_inputs(&mut bytes, t, inputs)?;
+    }
+    bytes.extend_from_slice(REAR)?;
+    Ok(bytes)
+}
+
+fn push_inputs(bytes: &mut Vec<u8>, t: usize, inputs: usize) -> Result<(), NoMemory> {
+    let alloc = *bytes.allocator();
+    for i in 0..inputs {
+        let input = format!(in alloc;
+            "<place id=\"p{t}.{i}\"/><arc id=\"from{t}.{i}\" source=\"p{t}.{i}\" target=\"t{t}\"/>"
+        )?;
+        bytes.extend_from_slice(input.as_bytes())?;
+    }
+    Ok(())
+}
