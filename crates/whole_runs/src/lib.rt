@@ -5,7 +5,7 @@
 #[cfg(test)]
 mod classes;
 #[cfg(test)]
-mod closed_sets;
+mod siphons_and_traps;
 #[cfg(test)]
 mod devices;
 #[cfg(test)]
