@@ -4,7 +4,7 @@
     bench/classes.py [RUNS]
 
 A line tells how many input places a transition has, where it has any, the best processor time of RUNS runs (by
-default 5) of `class` and of `check` on the same document, and the milliseconds between them, which are those of
+default 9) of `class` and of `check` on the same document, and the milliseconds between them, which are those of
 the classes. All these nets are ordinary and free-choice, so no test ends early but those of the state machine
 and of the marked graph.
 """
@@ -15,7 +15,7 @@ from nets import blocks
 
 
 def main():
-    runs = int(sys.argv[1]) if len(sys.argv) > 1 else 5
+    runs = int(sys.argv[1]) if len(sys.argv) > 1 else 9
     program = built()
     print(load())
     print("%12s %9s %9s %12s" % ("input places", "class", "check", "milliseconds"))

@@ -3,18 +3,19 @@ import os
 import subprocess
 import tempfile
 
-PROGRAM = os.environ.get("PNMLSTRUCT") or os.path.join(
-    os.path.dirname(os.path.dirname(os.path.realpath(__file__))), "bin", "pnmlstruct"
-)
+ROOT = os.path.dirname(os.path.dirname(os.path.realpath(__file__)))
 
 
 def built():
-    """The program that is measured: that of the variable PNMLSTRUCT, else that of this repository, which is
-    proved and built first."""
+    """The program that is measured: the one that the variable PNMLSTRUCT names, else that of this repository,
+    which is proved and built first."""
     if "PNMLSTRUCT" in os.environ:
-        return PROGRAM
-    subprocess.run([PROGRAM, "check"], input=b"", capture_output=True, check=False)
-    return os.path.join(os.path.dirname(os.path.dirname(PROGRAM)), "crates", "pnmlstruct", "out", "pnmlstruct")
+        return os.environ["PNMLSTRUCT"]
+    program = os.path.join(ROOT, "crates", "pnmlstruct", "out", "pnmlstruct")
+    done = subprocess.run([os.path.join(ROOT, "bin", "pnmlstruct"), "check"], input=b"", capture_output=True, check=False)
+    if not os.path.exists(program):
+        raise SystemExit(done.stderr.decode())
+    return program
 
 
 def run(command, stdin=subprocess.DEVNULL, status=0):

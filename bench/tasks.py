@@ -114,7 +114,7 @@ def compared(net, task, output, seconds):
         return "late"
     if members != answered(task, output):
         sys.exit("the other list has %d members: %s" % (len(members), output.decode().split("\n")[-2]))
-    return "%.1f" % (others_seconds / seconds)
+    return "%.2f" % (others_seconds / seconds)
 
 
 def main():

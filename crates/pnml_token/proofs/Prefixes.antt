@@ -1,6 +1,10 @@
--- Cutting at the length of a run gives the run and what stands behind it.
-use Rattle.std.proofs.Common.{◌≡◌, ℕ, suc, ◌+◌, Bool, true, false, cond, List, [], ◌∷◌, take, drop, refl, ap, arith}
+-- Cutting at the length of a run gives the run and what stands behind it. The first byte that the class lacks
+-- tells that length.
+use Rattle.std.proofs.Common.{◌≡◌, ℕ, suc, ◌+◌, Bool, true, false, cond, List, [], ◌∷◌, Option, Some, None, take, drop, length, get_or, refl, sym, ap, arith}
+use Rattle.std.specs.Prelude.{not, unwrap_or}
 use Rattle.std.specs.List.{prefix_len}
+use Rattle.std.proofs.lemmas.List.Sums.{prefix_len_is}
+use Rattle.memchr.specs.Find.{IsFirstByte}
 use Rattle.pnml_grammar.specs.Runs.{passed, behind}
 
 one_more : (n : ℕ) → 1 + n ≡ suc n
@@ -21,3 +25,20 @@ drop_prefix p (x ∷ xs) =
       | true ↦ rw (one_more (prefix_len p xs)) (drop_prefix p xs)
       | false ↦ refl
     ]
+
+-- a byte that isn't the one sought is of the class of all others
+other_byte : (b : Bool) → (b ≡ true → ⊥) → not b ≡ true
+other_byte true other = absurd (other refl)
+other_byte false other = refl
+
+pub sought_prefix : (sought : ℕ → Bool) (bytes : List ℕ) (r : Option ℕ) → IsFirstByte sought bytes r → unwrap_or r (length bytes) ≡ prefix_len (λ byte. not (sought byte)) bytes
+sought_prefix sought bytes (Some k) found =
+    sym
+    (prefix_len_is (λ byte. not (sought byte)) bytes k 0 (omega (arith, found.0.high))
+    (λ j before. other_byte (sought (get_or bytes j 0)) (found.0.before j (omega arith) before))
+    (λ inside. ap not found.1))
+sought_prefix sought bytes None none =
+    sym
+    (prefix_len_is (λ byte. not (sought byte)) bytes (length bytes) 0 (omega arith)
+    (λ j before. other_byte (sought (get_or bytes j 0)) (none j (omega arith) before))
+    (λ inside. absurd (omega (arith, inside))))

@@ -1,7 +1,7 @@
-ghost use Rattle.std.specs.Prelude.{◌≡◌, option_map, is_some};
+ghost use Rattle.std.specs.Prelude.{◌≡◌, option_map, is_some, codes};
 ghost use Rattle.pnml_grammar.specs.Runs.{until};
 
-use memchr::memmem;
+use memchr::{memchr, memmem};
 
 /// What stands before the first place of the part, and behind that.
 pub(crate) fn until<'a>(part: &[u8], bytes: &'a [u8]) -> Option<(&'a [u8], &'a [u8])>
@@ -11,9 +11,12 @@ pub(crate) fn until<'a>(part: &[u8], bytes: &'a [u8]) -> Option<(&'a [u8], &'a [
     Some((&bytes[..place], &bytes[place + part.len()..]))
 }
 
-/// Whether the part stands anywhere in the bytes.
-pub(crate) fn contains(part: &[u8], bytes: &[u8]) -> bool
-    ensures { result ≡ is_some (until part.now bytes.now) }
+/// Whether `]]>` stands anywhere in the bytes. Most texts have no `>`, and are told by that.
+pub(crate) fn has_section_end(bytes: &[u8]) -> bool
+    ensures { result ≡ is_some (until (codes "]]>") bytes.now) }
 {
-    until(part, bytes).is_some()
+    match memchr(b'>', bytes) {
+        None => false,
+        Some(_) => until(b"]]>", bytes).is_some(),
+    }
 }

@@ -5,6 +5,7 @@ ghost use Rattle.pnml_token.specs.Classes.{in_class};
 ghost use Rattle.pnml_token.specs.Pieces.{past_feed};
 
 use crate::class::{Class, has};
+use memchr::memchr;
 
 /// The first bytes of the class, and the bytes behind them.
 pub(crate) fn split_run(class: Class, bytes: &[u8]) -> (&[u8], &[u8])
@@ -19,6 +20,21 @@ pub(crate) fn run_length(class: Class, bytes: &[u8]) -> usize
     ensures { result ≡ prefix_len (in_class class) bytes.now }
 {
     bytes.iter().take_while(|byte| has(class, **byte)).count()
+}
+
+/// Text up to the next markup, and the bytes from there on.
+pub(crate) fn split_markup(bytes: &[u8]) -> (&[u8], &[u8])
+    ensures run { result.0.now ≡ passed (in_class Class.Text) bytes.now }
+    ensures rest { result.1.now ≡ behind (in_class Class.Text) bytes.now }
+{
+    bytes.split_at(text_length(bytes))
+}
+
+/// How many bytes come before the first `<`.
+fn text_length(bytes: &[u8]) -> usize
+    ensures { result ≡ prefix_len (in_class Class.Text) bytes.now }
+{
+    memchr(b'<', bytes).unwrap_or(bytes.len())
 }
 
 /// What stands behind white space.
