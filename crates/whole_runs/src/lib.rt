@@ -5,8 +5,6 @@
 #[cfg(test)]
 mod classes;
 #[cfg(test)]
-mod siphons_and_traps;
-#[cfg(test)]
 mod devices;
 #[cfg(test)]
 mod documents;
@@ -20,3 +18,5 @@ mod flattening;
 mod nets;
 #[cfg(test)]
 mod semiflows;
+#[cfg(test)]
+mod siphons_and_traps;
