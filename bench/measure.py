@@ -20,7 +20,7 @@ def built():
 
 def run(command, stdin=subprocess.DEVNULL, status=0):
     """The output of the command, its processor time in seconds, which tells little of how busy the machine is,
-    and its peak memory in bytes, which is at least that of the interpreter that starts it, about 15 MB. It has
+    and its peak memory in bytes, which is at least that of the interpreter that starts it, 15 MB or more. It has
     to end with this status."""
     with tempfile.TemporaryFile() as out:
         child = subprocess.Popen(command, stdin=stdin, stdout=out, stderr=subprocess.DEVNULL if status else None)
