@@ -1,5 +1,5 @@
-use crate::fixture::{CHECK, Row, check_input, check_net, check_row};
-use crate::nets::{ALONE, CYCLE, ISLES, LINE, MUTEX, Net, PRUNE, SCALE, TWIN, fan};
+use crate::fixture::{CHECK, NetText, Row, check_input, check_row, check_texts};
+use crate::nets::{ALONE, CYCLE, ISLES, LINE, MUTEX, PRUNE, SCALE, TWIN, fan};
 use std::test::Fail;
 
 const ALL: &[u8] = b"ordinary yes\nstate-machine yes\nmarked-graph yes\nfree-choice yes\n";
@@ -20,25 +20,19 @@ const CLASS: Row<'static> = Row {
     ..CHECK
 };
 
+const TEXTS: [NetText; 7] = [
+    ("a cycle", CYCLE, ALL),
+    ("parallel arcs, which add up", TWIN, NONE),
+    ("written weights", SCALE, NONE),
+    ("places with one arc", LINE, STATE_MACHINE),
+    ("places without arcs", ISLES, STATE_MACHINE),
+    ("a transition without arcs", ALONE, MARKED_GRAPH),
+    ("a shared place beside others", PRUNE, ORDINARY_ALONE),
+];
+
 #[test]
 fn classes_of_nets_are_told(rt: HostRuntime) -> Result<(), Fail> {
-    let rows: [(&'static str, Net, &'static [u8]); 7] = [
-        ("a cycle", CYCLE, ALL),
-        ("parallel arcs, which add up", TWIN, NONE),
-        ("written weights", SCALE, NONE),
-        ("places with one arc", LINE, STATE_MACHINE),
-        ("places without arcs", ISLES, STATE_MACHINE),
-        ("a transition without arcs", ALONE, MARKED_GRAPH),
-        ("a shared place beside others", PRUNE, ORDINARY_ALONE),
-    ];
-    for (shows, net, out) in rows {
-        let row = Row {
-            shows,
-            out,
-            ..CLASS
-        };
-        check_net(&rt, rt.alloc(), &net, &row)?;
-    }
+    check_texts(&rt, rt.alloc(), CLASS.words, &TEXTS)?;
     let mutex = Row {
         shows: "a shared lock",
         input: MUTEX,

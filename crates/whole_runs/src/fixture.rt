@@ -71,6 +71,28 @@ pub fn check_net(rt: &impl Abort, alloc: Global, net: &Net, row: &Row<'_>) -> Re
     check_input(rt, alloc, row, document(alloc, net)?, row.out)
 }
 
+/// What is shown, a net, and the text that a task writes of it.
+pub type NetText = (&'static str, Net, &'static [u8]);
+
+/// Runs a task on each net.
+pub fn check_texts(
+    rt: &impl Abort,
+    alloc: Global,
+    words: &'static [&'static str],
+    texts: &[NetText],
+) -> Result<(), NoMemory> {
+    for (shows, net, out) in texts {
+        let row = Row {
+            shows: *shows,
+            words,
+            out: *out,
+            ..CHECK
+        };
+        check_net(rt, alloc, net, &row)?;
+    }
+    Ok(())
+}
+
 /// Runs a row on an input and with an output of its own.
 pub fn check_input(
     rt: &impl Abort,

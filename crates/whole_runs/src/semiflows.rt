@@ -1,8 +1,11 @@
-use crate::fixture::{CHECK, Row, check_input, check_net, check_row};
+use crate::fixture::{CHECK, NetText, Row, check_input, check_net, check_row, check_texts};
 use crate::nets::{
-    ALONE, CHAIN_OF_2, CHAIN_OF_3, CYCLE, DIVIDED, ISLES, LINE, MUTEX, Net, PRUNE, SCALE, TWIN,
+    ALONE, CHAIN_OF_2, CHAIN_OF_3, CYCLE, DIVIDED, ISLES, LINE, MUTEX, PRUNE, SCALE, TWIN,
     WIDE_SUM, fan,
 };
+use net_values::NoMemory;
+use std::alloc::Global;
+use std::process::Abort;
 use std::test::Fail;
 
 const PLACES: Row<'static> = Row {
@@ -15,135 +18,82 @@ const TRANSITIONS: Row<'static> = Row {
     ..CHECK
 };
 
+const OF_PLACES: [NetText; 7] = [
+    ("semiflows of places", CYCLE, b"1*p 1*q\nsemiflows 1\n"),
+    ("coefficients above 1", SCALE, b"3*p 2*q\nsemiflows 1\n"),
+    (
+        "a combination whose support isn't minimal",
+        PRUNE,
+        b"1*b 1*c\n1*a 1*d\nsemiflows 2\n",
+    ),
+    (
+        "a coefficient of 2^126",
+        CHAIN_OF_2,
+        b"85070591730234615865843651857942052864*p1 9223372036854775808*p2 1*p3\nsemiflows 1\n",
+    ),
+    (
+        "rows divided by their common divisor",
+        DIVIDED,
+        b"85070591730234615865843651857942052864*p 85070591730234615865843651857942052864*q 9223372036854775808*r 1*s\nsemiflows 1\n",
+    ),
+    (
+        "a net without transitions",
+        ISLES,
+        b"1*b\n1*a\nsemiflows 2\n",
+    ),
+    (
+        "parallel arcs, which add up",
+        TWIN,
+        b"1*p 2*q\nsemiflows 1\n",
+    ),
+];
+
+const OF_TRANSITIONS: [NetText; 6] = [
+    ("semiflows of transitions", CYCLE, b"1*t 1*u\nsemiflows 1\n"),
+    (
+        "weights that the transitions bring back",
+        SCALE,
+        b"1*t 1*u\nsemiflows 1\n",
+    ),
+    ("an empty list", LINE, b"semiflows 0\n"),
+    (
+        "no transition, no semiflow of transitions",
+        ISLES,
+        b"semiflows 0\n",
+    ),
+    ("a net without places", ALONE, b"1*t\nsemiflows 1\n"),
+    ("the same net by its places", CHAIN_OF_3, b"semiflows 0\n"),
+];
+
+/// Nets whose semiflows are out of range, and the lines that say so.
+const WIDE: [NetText; 2] = [
+    (
+        "a combination above the range",
+        CHAIN_OF_3,
+        b"wide row at t3\n",
+    ),
+    ("a sum above the range", WIDE_SUM, b"wide sum at t3\n"),
+];
+
+/// Runs `places` on nets whose semiflows are out of range.
+fn check_wide(rt: &impl Abort, alloc: Global, nets: &[NetText]) -> Result<(), NoMemory> {
+    for (shows, net, err) in nets {
+        let row = Row {
+            shows: *shows,
+            status: 4,
+            err: *err,
+            ..PLACES
+        };
+        check_net(rt, alloc, net, &row)?;
+    }
+    Ok(())
+}
+
 #[test]
 fn minimal_semiflows_are_listed(rt: HostRuntime) -> Result<(), Fail> {
-    let rows: [(Net, Row<'static>); 15] = [
-        (
-            CYCLE,
-            Row {
-                shows: "semiflows of places",
-                out: b"1*p 1*q\nsemiflows 1\n",
-                ..PLACES
-            },
-        ),
-        (
-            CYCLE,
-            Row {
-                shows: "semiflows of transitions",
-                out: b"1*t 1*u\nsemiflows 1\n",
-                ..TRANSITIONS
-            },
-        ),
-        (
-            SCALE,
-            Row {
-                shows: "coefficients above 1",
-                out: b"3*p 2*q\nsemiflows 1\n",
-                ..PLACES
-            },
-        ),
-        (
-            SCALE,
-            Row {
-                shows: "weights that the transitions bring back",
-                out: b"1*t 1*u\nsemiflows 1\n",
-                ..TRANSITIONS
-            },
-        ),
-        (
-            PRUNE,
-            Row {
-                shows: "a combination whose support isn't minimal",
-                out: b"1*b 1*c\n1*a 1*d\nsemiflows 2\n",
-                ..PLACES
-            },
-        ),
-        (
-            CHAIN_OF_2,
-            Row {
-                shows: "a coefficient of 2^126",
-                out: b"85070591730234615865843651857942052864*p1 9223372036854775808*p2 1*p3\nsemiflows 1\n",
-                ..PLACES
-            },
-        ),
-        (
-            DIVIDED,
-            Row {
-                shows: "rows divided by their common divisor",
-                out: b"85070591730234615865843651857942052864*p 85070591730234615865843651857942052864*q 9223372036854775808*r 1*s\nsemiflows 1\n",
-                ..PLACES
-            },
-        ),
-        (
-            LINE,
-            Row {
-                shows: "an empty list",
-                out: b"semiflows 0\n",
-                ..TRANSITIONS
-            },
-        ),
-        (
-            ISLES,
-            Row {
-                shows: "a net without transitions",
-                out: b"1*b\n1*a\nsemiflows 2\n",
-                ..PLACES
-            },
-        ),
-        (
-            ISLES,
-            Row {
-                shows: "no transition, no semiflow of transitions",
-                out: b"semiflows 0\n",
-                ..TRANSITIONS
-            },
-        ),
-        (
-            ALONE,
-            Row {
-                shows: "a net without places",
-                out: b"1*t\nsemiflows 1\n",
-                ..TRANSITIONS
-            },
-        ),
-        (
-            TWIN,
-            Row {
-                shows: "parallel arcs, which add up",
-                out: b"1*p 2*q\nsemiflows 1\n",
-                ..PLACES
-            },
-        ),
-        (
-            CHAIN_OF_3,
-            Row {
-                shows: "a combination above the range",
-                status: 4,
-                err: b"wide row at t3\n",
-                ..PLACES
-            },
-        ),
-        (
-            WIDE_SUM,
-            Row {
-                shows: "a sum above the range",
-                status: 4,
-                err: b"wide sum at t3\n",
-                ..PLACES
-            },
-        ),
-        (
-            CHAIN_OF_3,
-            Row {
-                shows: "the same net by its places",
-                out: b"semiflows 0\n",
-                ..TRANSITIONS
-            },
-        ),
-    ];
-    for (net, row) in &rows {
-        check_net(&rt, rt.alloc(), net, row)?;
-    }
+    check_texts(&rt, rt.alloc(), PLACES.words, &OF_PLACES)?;
+    check_texts(&rt, rt.alloc(), TRANSITIONS.words, &OF_TRANSITIONS)?;
+    check_wide(&rt, rt.alloc(), &WIDE)?;
     let mutex = Row {
         shows: "supports of two sizes",
         input: MUTEX,

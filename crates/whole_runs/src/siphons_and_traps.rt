@@ -1,5 +1,5 @@
-use crate::fixture::{CHECK, Row, check_input, check_net, check_row};
-use crate::nets::{ALONE, CYCLE, ISLES, LINE, MUTEX, Net, PRUNE, choices};
+use crate::fixture::{CHECK, NetText, Row, check_input, check_row, check_texts};
+use crate::nets::{ALONE, CYCLE, ISLES, LINE, MUTEX, PRUNE, choices};
 use std::test::Fail;
 
 const SIPHONS: Row<'static> = Row {
@@ -12,85 +12,25 @@ const TRAPS: Row<'static> = Row {
     ..CHECK
 };
 
+const MINIMAL_SIPHONS: [NetText; 5] = [
+    ("a siphon", CYCLE, b"p q\nsiphons 1\n"),
+    ("a place that gets no token", LINE, b"p\nsiphons 1\n"),
+    ("no place, no siphon", ALONE, b"siphons 0\n"),
+    ("the order of the list", ISLES, b"b\na\nsiphons 2\n"),
+    ("siphons of two sizes", PRUNE, b"d\nb c\nsiphons 2\n"),
+];
+
+const MINIMAL_TRAPS: [NetText; 4] = [
+    ("a trap", CYCLE, b"p q\ntraps 1\n"),
+    ("a trap that isn't minimal", LINE, b"q\ntraps 1\n"),
+    ("no place, no trap", ALONE, b"traps 0\n"),
+    ("traps of two sizes", PRUNE, b"b c\na\ntraps 2\n"),
+];
+
 #[test]
 fn minimal_siphons_and_traps_are_listed(rt: HostRuntime) -> Result<(), Fail> {
-    let rows: [(Net, Row<'static>); 9] = [
-        (
-            CYCLE,
-            Row {
-                shows: "a siphon",
-                out: b"p q\nsiphons 1\n",
-                ..SIPHONS
-            },
-        ),
-        (
-            CYCLE,
-            Row {
-                shows: "a trap",
-                out: b"p q\ntraps 1\n",
-                ..TRAPS
-            },
-        ),
-        (
-            LINE,
-            Row {
-                shows: "a place that gets no token",
-                out: b"p\nsiphons 1\n",
-                ..SIPHONS
-            },
-        ),
-        (
-            LINE,
-            Row {
-                shows: "a trap that isn't minimal",
-                out: b"q\ntraps 1\n",
-                ..TRAPS
-            },
-        ),
-        (
-            ALONE,
-            Row {
-                shows: "no place, no siphon",
-                out: b"siphons 0\n",
-                ..SIPHONS
-            },
-        ),
-        (
-            ALONE,
-            Row {
-                shows: "no place, no trap",
-                out: b"traps 0\n",
-                ..TRAPS
-            },
-        ),
-        (
-            ISLES,
-            Row {
-                shows: "the order of the list",
-                out: b"b\na\nsiphons 2\n",
-                ..SIPHONS
-            },
-        ),
-        (
-            PRUNE,
-            Row {
-                shows: "siphons of two sizes",
-                out: b"d\nb c\nsiphons 2\n",
-                ..SIPHONS
-            },
-        ),
-        (
-            PRUNE,
-            Row {
-                shows: "traps of two sizes",
-                out: b"b c\na\ntraps 2\n",
-                ..TRAPS
-            },
-        ),
-    ];
-    for (net, row) in &rows {
-        check_net(&rt, rt.alloc(), net, row)?;
-    }
+    check_texts(&rt, rt.alloc(), SIPHONS.words, &MINIMAL_SIPHONS)?;
+    check_texts(&rt, rt.alloc(), TRAPS.words, &MINIMAL_TRAPS)?;
     let siphons = Row {
         shows: "siphons that share a place",
         input: MUTEX,
