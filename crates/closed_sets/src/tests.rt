@@ -72,7 +72,7 @@ fn siphons_and_traps_of_small_nets(rt: HostRuntime) -> Result<(), Fail> {
     )?;
     let line = net_with(&rt, alloc, 2, 1, &[Arc::In(0, 0), Arc::Out(0, 1)])?;
     let isles = net_with(&rt, alloc, 2, 0, &[])?;
-    let alone = net_with(&rt, alloc, 0, 1, &[])?;
+    let only = net_with(&rt, alloc, 0, 1, &[])?;
     for (net, places, set, siphon, trap, minimal) in [
         (&ring, 2, [].as_slice(), true, true, false),
         (&ring, 2, [0].as_slice(), false, false, false),
@@ -82,7 +82,7 @@ fn siphons_and_traps_of_small_nets(rt: HostRuntime) -> Result<(), Fail> {
         (&line, 2, [0, 1].as_slice(), true, true, false),
         (&isles, 2, [1].as_slice(), true, true, true),
         (&isles, 2, [0, 1].as_slice(), true, true, false),
-        (&alone, 0, [].as_slice(), true, true, false),
+        (&only, 0, [].as_slice(), true, true, false),
     ] {
         let set = set_of(&rt, alloc, places, set)?;
         let mut scratch = set_of(&rt, alloc, places, &[])?;

@@ -1,4 +1,4 @@
--- Sums over the numbers below a bound, each by induction on the bound: term by term, of one term alone,
+-- Sums over the numbers below a bound, each by induction on the bound: term by term, of one term only,
 -- and a sum over a list whose members name their places, read place by place.
 use Rattle.std.proofs.Common.{◌≡◌, ◌≢◌, refl, sym, ap, ◌∙◌, ℕ, zero, suc, ◌+◌, ◌*◌, ◌^◌, ◌<◌, ◌≤◌, ◌==◌, cond, List, [], ◌∷◌, length, get_or, All, sum_by, inl, inr, arith}
 use Rattle.std.proofs.lemmas.Bool.{cases_eq}
@@ -70,7 +70,7 @@ by_place place count y n (x ∷ xs) within =
     in
     sum_by-cons (λ x. y (place x) * count x) x xs ∙ ap (λ z. z + sum_by (λ x. y (place x) * count x) xs) (sym one) ∙ ap (λ z. sum_below n (λ p. y p * counts_at place count p x) + z) rest ∙ sym all
 
--- a sum over a list of which no member or one alone counts
+-- a sum over a list of which no member or one only counts
 pub sum_none : {X : Type 0} (f : X → ℕ) (xs : List X) → ((i : ℕ) (d : X) → i < length xs → f (get_or xs i d) ≡ 0) → sum_by f xs ≡ 0
 sum_none f [] none = refl
 sum_none f (x ∷ xs) none =

@@ -1,4 +1,4 @@
--- The excess of a transition at a place is what the entry of the place counts for: no other entry stands
+-- The excess of a transition at a place is what the entry of the place counts for: no other entry occurs
 -- there, and without an entry the weight is 0.
 use Rattle.std.proofs.Common.{◌≡◌, refl, sym, ap, ◌∙◌, ℕ, ◌+◌, ◌*◌, ◌-◌, ◌^◌, ◌<◌, List, All, length, get_or, take, sum_by, inl, inr, arith}
 use Rattle.std.proofs.lemmas.List.Sums.{sum_by_more_le}

@@ -1,6 +1,6 @@
 -- A matrix of whole numbers, as two matrices of natural numbers: `gain i j` is the entry where it is
 -- positive, else 0, and `loss i j` is the negated entry where it is negative, else 0. Rows and columns are
--- numbers below the two counts; what stands past them doesn't count. A vector is a function of the row.
+-- numbers below the two counts; what occurs past them doesn't count. A vector is a function of the row.
 use Rattle.std.specs.Prelude.{ℕ, ℤ, pos, ◌*◌, ◌-◌, ◌<◌, ◌^◌, ◌-ℤ◌}
 use Rattle.net_values.specs.Net.{Net}
 use Rattle.incidence.specs.Sums.{sum_below}

@@ -8,7 +8,7 @@ pub record Table : Type 0 where
   pub height : ℕ
   pub lists : List (List Amount)
 
--- the amount of an entry where it stands at the row, else 0
+-- the amount of an entry where it occurs at the row, else 0
 abbrev pub part_at : ℕ → Amount → ℕ
 part_at i entry = if entry.row == i then entry.amount else 0
 
@@ -24,7 +24,7 @@ column_at table j = slice_index_or table.lists j []
 abbrev pub at : Table → ℕ → ℕ → ℕ
 at table i j = amount_at (column_at table j) i
 
--- each entry stands at a row of the table, and no amount exceeds 2^127 - 1
+-- each entry occurs at a row of the table, and no amount exceeds 2^127 - 1
 pub record IsTable (table : Table) : Type 0 where
   pub within : (j : ℕ) → All (λ entry. entry.row < table.height) (column_at table j)
   pub narrow : (i j : ℕ) → at table i j < 2 ^ 127

@@ -11,7 +11,7 @@ use std::alloc::Global;
 use std::marker::Model;
 
 /// A matrix of whole numbers with at most 4,096 rows and 4,096 columns, which keeps its nonzero entries
-/// alone. Contracts see the table of the positive entries and that of the negated negative ones.
+/// only. Contracts see the table of the positive entries and that of the negated negative ones.
 #[derive(Drop)]
 pub struct Incidence {
     gains: SparseTable,

@@ -14,7 +14,7 @@ pub struct Amount {
     pub amount: u128,
 }
 
-/// A matrix of natural numbers up to 2^127 - 1, which keeps the positive ones alone. Contracts see the
+/// A matrix of natural numbers up to 2^127 - 1, which keeps the positive ones only. Contracts see the
 /// number of rows and, per column, the list of its amounts.
 #[derive(Drop)]
 pub struct SparseTable {

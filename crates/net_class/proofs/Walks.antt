@@ -157,7 +157,7 @@ some_owner : (o : Option ℕ) → IsTrue (is_some o) → (owner : ℕ) × (o ≡
 some_owner None some = absurd (true≢false (sym some))
 some_owner (Some owner) some = (owner, refl)
 
--- each place that has an owner has it alone
+-- each place that has an owner has it only
 one_each : (net : Net) (w : ℕ → ℕ → ℕ) (owners : List (Option ℕ)) → AreOwners net w (λ t u. t ≡ u) net.transitions owners → ((p : ℕ) → p < net.places → IsTrue (is_some (owner_at owners p))) → OneTransitionEach net w
 one_each net w owners walked owned p below =
     let owner = some_owner (owner_at owners p) (owned p below) in

@@ -75,7 +75,7 @@ fn classes_of_small_nets(rt: HostRuntime) -> Result<(), Fail> {
             [Arc::In(0, 0, 1), Arc::Out(0, 0, 2)].as_slice(),
             [false, false, false, false],
         ),
-        // nothing, a place alone, a transition alone
+        // nothing, a place only, a transition only
         (0, 0, [].as_slice(), [true, true, true, true]),
         (1, 0, [].as_slice(), [true, true, false, true]),
         (0, 1, [].as_slice(), [true, false, true, true]),

@@ -1,6 +1,6 @@
--- The weight of a place in a column. Where no entry stands at the place it is 0; where one does it is
--- that entry's weight, since the others stand elsewhere. A write at an entry or an entry more changes the
--- sum by that entry alone.
+-- The weight of a place in a column. Where no entry occurs at the place it is 0; where one does it is
+-- that entry's weight, since the others occur elsewhere. A write at an entry or an entry more changes the
+-- sum by that entry only.
 use Rattle.std.proofs.Common.{◌≡◌, ◌≢◌, refl, sym, ap, ◌∙◌, ℕ, zero, suc, ◌+◌, ◌<◌, List, [], ◌∷◌, length, get_or, Any, inl, inr, arith}
 use Rattle.std.proofs.lemmas.Bool.{cases_lt, cases_eq}
 use Rattle.std.proofs.lemmas.Bool.Decides.{nat_tests}
@@ -12,7 +12,7 @@ use Rattle.std.specs.List.Sorted.{IsSearchInRange, IsBinarySearchResult, IsSorte
 use Rattle.std.specs.Ordering.{nat_cmp, is_lt}
 use Rattle.std.proofs.lemmas.Cmp.{nat_cmp_total}
 use Rattle.std.proofs.lemmas.List.Sorted.{searchable_from_sorted}
-use Rattle.net_values.specs.Columns.{part_at, weight_at, IsColumn, StandsAt, BelongsAt, Lists}
+use Rattle.net_values.specs.Columns.{part_at, weight_at, IsColumn, OccursAt, BelongsAt, Lists}
 
 pub part_same : (p : ℕ) (entry : WeightedPlace) → entry.place ≡ p → part_at p entry ≡ entry.weight
 part_same p entry same = grind (arith, nat_tests)
@@ -20,7 +20,7 @@ part_same p entry same = grind (arith, nat_tests)
 pub part_other : (p : ℕ) (entry : WeightedPlace) → entry.place ≢ p → part_at p entry ≡ 0
 part_other p entry other = grind (arith, nat_tests)
 
--- no entry stands at the place
+-- no entry occurs at the place
 pub weight_none : (column : List WeightedPlace) (p : ℕ) → ((k : ℕ) (d : WeightedPlace) → k < length column → (get_or column k d).place ≢ p) → weight_at column p ≡ 0
 weight_none [] p none = refl
 weight_none (entry ∷ column) p none =
@@ -28,7 +28,7 @@ weight_none (entry ∷ column) p none =
     let rest = weight_none column p (λ k d within. none (suc k) d (omega arith)) in
     sum_by-cons (part_at p) entry column ∙ omega (arith, here, rest)
 
--- one entry stands at the place
+-- one entry occurs at the place
 pub weight_one : (column : List WeightedPlace) (p k : ℕ) (d : WeightedPlace) → k < length column → (get_or column k d).place ≡ p → ((i : ℕ) (e : WeightedPlace) → i < length column → i ≢ k → (get_or column i e).place ≢ p) → weight_at column p ≡ (get_or column k d).weight
 weight_one [] p k d within here others = absurd (omega arith)
 weight_one (entry ∷ column) p zero d within here others =
@@ -46,7 +46,7 @@ sorted_column column h k d low high =
     grind (arith, nat_tests)
 
 -- what a binary search answers
-pub found : (column : List WeightedPlace) (p : ℕ) (r : Result ℕ ℕ) → IsColumn column → IsSearchInRange r (length column) → IsBinarySearchResult (λ entry. nat_cmp entry.place p) column r → MatchResult r (StandsAt column p) (BelongsAt column p)
+pub found : (column : List WeightedPlace) (p : ℕ) (r : Result ℕ ℕ) → IsColumn column → IsSearchInRange r (length column) → IsBinarySearchResult (λ entry. nat_cmp entry.place p) column r → MatchResult r (OccursAt column p) (BelongsAt column p)
 found column p (Ok k) h bound result = record {
   within = bound;
   place = λ d. grind (arith, nat_tests, result d);
@@ -59,7 +59,7 @@ found column p (Err k) h bound result =
       above = λ i d low high. grind (arith, nat_tests, parts.1 i d low high);
     }
 
--- in a column no other entry stands at the place of one
+-- in a column no other entry occurs at the place of one
 pub others_elsewhere : (column : List WeightedPlace) (k : ℕ) → IsColumn column → k < length column → (i : ℕ) (d : WeightedPlace) → i < length column → i ≢ k → (get_or column i d).place ≢ (get_or column k d).place
 others_elsewhere column k h within i d here other =
     elim (cases_lt i k) [
@@ -68,11 +68,11 @@ others_elsewhere column k h within i d here other =
     ]
 
 -- what a search that found an entry tells of the weight
-pub weight_found : (column : List WeightedPlace) (p k : ℕ) (entry : WeightedPlace) → IsColumn column → StandsAt column p k → entry ≡ get_or column k entry → entry.weight ≡ weight_at column p
-weight_found column p k entry h stands read =
+pub weight_found : (column : List WeightedPlace) (p k : ℕ) (entry : WeightedPlace) → IsColumn column → OccursAt column p k → entry ≡ get_or column k entry → entry.weight ≡ weight_at column p
+weight_found column p k entry h occurs read =
     let one =
-    weight_one column p k entry stands.within (stands.place entry)
-    (λ i e here other. let same = stands.place e in let apart = others_elsewhere column k h stands.within i e here other in omega arith) in
+    weight_one column p k entry occurs.within (occurs.place entry)
+    (λ i e here other. let same = occurs.place e in let apart = others_elsewhere column k h occurs.within i e here other in omega arith) in
     ap (λ (x : WeightedPlace). x.weight) read ∙ sym one
 
 -- what a search that found none tells of it

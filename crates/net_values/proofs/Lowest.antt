@@ -1,5 +1,5 @@
 -- The lowest place with a property that only places of a column have. The entries ascend, so the first
--- entry whose place has the property stands at the lowest one, and where no entry does no place does.
+-- entry whose place has the property occurs at the lowest one, and where no entry does no place does.
 use Rattle.std.proofs.Common.{◌≡◌, sym, ap, ◌∙◌, subst, ℕ, ◌<◌, List, length, get_or, inl, inr, arith}
 use Rattle.std.proofs.lemmas.Bool.{cases_lt, cases_eq}
 use Rattle.std.proofs.lemmas.List.{get_or_default}

@@ -30,7 +30,7 @@ apart_both_ways xs h = record {
 }
 
 module _ {X : Type 0} (xs : List X) (a b : ℕ) (first : a < length xs) (second : b < length xs) where
-  -- where the member at k of the list with two members exchanged stood before
+  -- where the member at k of the list with two members exchanged occurred before
   abbrev from : ℕ → ℕ
   from k = if k == a then b else (if k == b then a else k)
 

@@ -32,6 +32,6 @@ pub record IsId (bytes : List ℕ) : Type 0 where
   pub short : length bytes ≤ 4096
 
 -- the value of a name: at most 65,536 bytes
-pub record IsName (bytes : List ℕ) : Type 0 where
+pub record IsNameValue (bytes : List ℕ) : Type 0 where
   pub characters : IsLegalText bytes
   pub short : length bytes ≤ 65536

@@ -3,7 +3,7 @@ use Rattle.std.specs.Prelude.{◌≡◌, ℕ, ◌+◌, ◌<◌, ◌≤◌, ◌==
 use Rattle.std.specs.List.{AllWithin, HoldsAt}
 use Rattle.net_values.specs.declared.column.WeightedPlace.{WeightedPlace}
 
--- the weight of an entry where it stands at the place, else 0
+-- the weight of an entry where it occurs at the place, else 0
 abbrev pub part_at : ℕ → WeightedPlace → ℕ
 part_at p entry = if entry.place == p then entry.weight else 0
 
@@ -28,8 +28,8 @@ LeftOf old column new = (p : ℕ) → slice_index new p + weight_at column p ≡
 abbrev pub GivenTo : List ℕ → List WeightedPlace → List ℕ → Type 0
 GivenTo old column new = (p : ℕ) → slice_index new p ≡ slice_index old p + weight_at column p
 
--- the entry of the place stands at k
-pub record StandsAt (column : List WeightedPlace) (p : ℕ) (k : ℕ) : Type 0 where
+-- the entry of the place occurs at k
+pub record OccursAt (column : List WeightedPlace) (p : ℕ) (k : ℕ) : Type 0 where
   pub within : k < length column
   pub place : HoldsAt (λ entry. entry.place ≡ p) column k
 

@@ -45,7 +45,7 @@ abbrev pub with_transition : NetLists → List ℕ → NetLists
 with_transition lists id =
     record lists { transitions = lists.transitions ++ record { id = id; inputs = []; outputs = [] } ∷ [] }
 
--- positive at places alone, and at most the sum of this many arcs of weight 2^64 - 1
+-- positive at places only, and at most the sum of this many arcs of weight 2^64 - 1
 pub record AreWeights (places arcs : ℕ) (weights : ℕ → ℕ → ℕ) : Type 0 where
   pub within : (p t : ℕ) → 0 < weights p t → p < places
   pub narrow : (p t : ℕ) → weights p t ≤ arcs * (2 ^ 64 - 1)

@@ -1,5 +1,5 @@
 ghost use Rattle.std.specs.Prelude.{◌≡◌, [], ◌+◌, ◌<◌, ◌^◌, IfOk, OnOk, OnErr, MatchResult};
-ghost use Rattle.net_values.specs.Columns.{IsColumn, AddsAt, StandsAt, BelongsAt, weight_at};
+ghost use Rattle.net_values.specs.Columns.{IsColumn, AddsAt, OccursAt, BelongsAt, weight_at};
 
 use crate::no_memory::NoMemory;
 use std::alloc::Global;
@@ -86,10 +86,10 @@ impl Column {
     }
 }
 
-/// Where the entry of a place stands, or else where one would belong.
+/// Where the entry of a place occurs, or else where one would belong.
 fn find(entries: &[WeightedPlace], place: usize) -> Result<usize, usize>
     requires { IsColumn entries.now }
-    ensures { MatchResult result (StandsAt entries.now place) (BelongsAt entries.now place) }
+    ensures { MatchResult result (OccursAt entries.now place) (BelongsAt entries.now place) }
 {
     entries.binary_search_by_key(&place, |entry| entry.place)
 }

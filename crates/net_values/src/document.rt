@@ -7,7 +7,7 @@ pub struct Document {
     pub net: NetTree,
 }
 
-/// A net as it is written: pages stand flat among its items.
+/// A net as it is written: pages occur flat among its items.
 #[derive(Drop)]
 pub struct NetTree {
     pub id: Text,
@@ -15,7 +15,7 @@ pub struct NetTree {
     pub items: Items,
 }
 
-/// The items of a net in document order. Those of a page stand between its `Page` and its `PageEnd`.
+/// The items of a net in document order. Those of a page are between its `Page` and its `PageEnd`.
 pub type Items = List<Item>;
 
 impl Items {
@@ -40,7 +40,7 @@ impl Items {
     }
 }
 
-/// What may stand in a net or on a page (ISO/IEC 15909-2).
+/// What may occur in a net or on a page (ISO/IEC 15909-2).
 #[derive(Drop)]
 pub enum Item {
     Page(PageNode),
@@ -74,7 +74,7 @@ pub struct TransitionNode {
     pub name: Option<Text>,
 }
 
-/// A reference node, which stands for the node whose id is its target.
+/// A reference node, which represents the node whose id is its target.
 #[derive(Drop)]
 pub struct RefNode {
     pub id: Text,

@@ -1,5 +1,5 @@
 //! The values that every other crate speaks of: texts, lists, documents, nets, markings, vectors and
-//! place sets, each seen by contracts as the plain list or record that it stands for.
+//! place sets, each seen by contracts as the plain list or record that it represents.
 #![tactic(auto)]
 
 mod column;

@@ -88,7 +88,7 @@ module _ (table : List (List ℕ × Option NodeKind)) (links : List Link) where
     count = adds.arcs;
   }
 
-  -- the arcs of the items so far were added, and those behind fit
+  -- the arcs of the items so far were added, and those after fit
   pub record HasArcsUpTo (items : List Item) (k : ℕ) (old new : NetLists) : Type 0 where
     pub front : List ArcNode
     pub split : flat_map arcs items ≡ front ++ flat_map arcs (drop k items)
@@ -170,5 +170,5 @@ output_ends (Some (AtTransition u)) (Some (AtTransition v)) t p e = absurd cc
 pub resolved_is : (table : List (List ℕ × Option NodeKind)) (links : List Link) → AreDistinct (table_ids table) → (id : List ℕ) (found : Option End) → IfSome found (EndsById table links id) → IfNone found ((end : End) → EndsById table links id end → ⊥) → (end : End) → EndsById table links id end → found ≡ Some end
 resolved_is table links distinct id None some none end h = absurd (none end h)
 resolved_is table links distinct id (Some found) some none end h =
-    let other = ends_at_number table links distinct some.number id (Some some.kind) end some.stands h in
+    let other = ends_at_number table links distinct some.number id (Some some.kind) end some.occurs h in
     ap Some (one_end some.ends.steps other.steps links some.number found end some.ends.chain other.chain).1

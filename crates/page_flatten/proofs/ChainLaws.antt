@@ -30,7 +30,7 @@ one_end (suc s) (suc t) links n a b h k =
     let rest = one_end s t links h.0 a b h.2 (subst (λ m. EndsIn t links m b) same k.2) in
     (ap suc rest.0, rest.1)
 
--- a chain that passes a link goes on behind it
+-- a chain that passes a link goes on after it
 pub goes_on : (s : ℕ) (links : List Link) (n m : ℕ) (end : End) → slice_get links n ≡ Some (Leads m) → EndsIn s links n end → (t : ℕ) × (s ≡ suc t) × EndsIn t links m end
 goes_on zero links n m end at h = absurd (not_both (same_read links n h at))
 goes_on (suc s) links n m end at h = (s, refl, subst (λ l. EndsIn s links l end) (lead_is (same_read links n h.1 at)) h.2)
@@ -184,10 +184,10 @@ followed_off links start steps at no_end no_lead followed end h = let rest = fol
 -- tables of links with the same ends give each id the same ends
 module _ (table : List (List ℕ × Option NodeKind)) (old new : List Link) (same : HaveSameEnds old new) where
   pub kept_by_id : (id : List ℕ) (end : End) → EndsById table old id end → EndsById table new id end
-  kept_by_id id end h = record { number = h.number; kind = h.kind; stands = h.stands; ends = same.kept h.number end h.ends }
+  kept_by_id id end h = record { number = h.number; kind = h.kind; occurs = h.occurs; ends = same.kept h.number end h.ends }
 
   pub sound_by_id : (id : List ℕ) (end : End) → EndsById table new id end → EndsById table old id end
-  sound_by_id id end h = record { number = h.number; kind = h.kind; stands = h.stands; ends = same.sound h.number end h.ends }
+  sound_by_id id end h = record { number = h.number; kind = h.kind; occurs = h.occurs; ends = same.sound h.number end h.ends }
 
   pub kept_reference : (reference : ReferenceTo) → ItsLinksEnd table old reference → ItsLinksEnd table new reference
   kept_reference reference h = (h.0, kept_by_id reference.target h.0 h.1)
@@ -198,4 +198,4 @@ module _ (table : List (List ℕ × Option NodeKind)) (old new : List Link) (sam
 -- the chain by the one number that an id has
 pub ends_at_number : (table : List (List ℕ × Option NodeKind)) (links : List Link) → AreDistinct (table_ids table) → (n : ℕ) (id : List ℕ) (kind : Option NodeKind) (end : End) → slice_get table n ≡ Some (id, kind) → EndsById table links id end → EndsAt links n end
 ends_at_number table links distinct n id kind end at h =
-    subst (λ m. EndsAt links m end) (one_number table distinct h.number n id (Some h.kind) kind h.stands at) h.ends
+    subst (λ m. EndsAt links m end) (one_number table distinct h.number n id (Some h.kind) kind h.occurs at) h.ends

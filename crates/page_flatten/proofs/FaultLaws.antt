@@ -10,7 +10,7 @@ use Rattle.page_flatten.specs.declared.node.NodeKind.{NodeKind}
 use Rattle.page_flatten.specs.Elements.{Mention, ReferenceTo, reference_of}
 use Rattle.page_flatten.specs.Rules.{IsKnown, NamesItsKind, IsFirstWithout}
 use Rattle.page_flatten.specs.Tables.{ItsLinksEnd, LinksJoin, IsFirstUnknown, IsFirstOfWrongKind, IsFirstEndless, IsFirstMisjoined, IsEndless, IsMisjoined}
-use Rattle.page_flatten.proofs.Passes.{first_alone}
+use Rattle.page_flatten.proofs.Passes.{first_only}
 
 -- from what holds of the fault to what is asked of it
 pub err_then : {T E : Type 0} (P Q : E → Type 0) (r : Result T E) → ((e : E) → P e → Q e) → IfErr r P → IfErr r Q
@@ -57,20 +57,20 @@ module _ (table : List (List ℕ × Option NodeKind)) where
     misjoined_moves xs ys moves (RefCycle id) h = absurd h
     misjoined_moves xs ys moves (ArcEnds id) h = (h.0, moves h.0 h.1, h.2)
 
-    -- the fault of one reference node is that of the list of it alone
-    pub endless_alone : (kind : NodeKind) (node : RefNode) (fault : FlatFault) → IsEndless table links node fault → IsFirstEndless table links (reference_of kind node ∷ []) fault
-    endless_alone kind node NoMemory h = tt
-    endless_alone kind node (DuplicateId id) h = absurd h
-    endless_alone kind node (UnknownId id by) h = absurd h
-    endless_alone kind node (RefKind id) h = absurd h
-    endless_alone kind node (RefCycle id) h = (reference_of kind node, first_alone (ItsLinksEnd table links) (reference_of kind node) (λ ends. h.1 ends.0 ends.1), sym h.0)
-    endless_alone kind node (ArcEnds id) h = absurd h
+    -- the fault of one reference node is that of the list of it only
+    pub endless_only : (kind : NodeKind) (node : RefNode) (fault : FlatFault) → IsEndless table links node fault → IsFirstEndless table links (reference_of kind node ∷ []) fault
+    endless_only kind node NoMemory h = tt
+    endless_only kind node (DuplicateId id) h = absurd h
+    endless_only kind node (UnknownId id by) h = absurd h
+    endless_only kind node (RefKind id) h = absurd h
+    endless_only kind node (RefCycle id) h = (reference_of kind node, first_only (ItsLinksEnd table links) (reference_of kind node) (λ ends. h.1 ends.0 ends.1), sym h.0)
+    endless_only kind node (ArcEnds id) h = absurd h
 
     -- and that of one arc
-    pub misjoined_alone : (arc : ArcNode) (fault : FlatFault) → IsMisjoined table links arc fault → IsFirstMisjoined table links (arc ∷ []) fault
-    misjoined_alone arc NoMemory h = tt
-    misjoined_alone arc (DuplicateId id) h = absurd h
-    misjoined_alone arc (UnknownId id by) h = absurd h
-    misjoined_alone arc (RefKind id) h = absurd h
-    misjoined_alone arc (RefCycle id) h = absurd h
-    misjoined_alone arc (ArcEnds id) h = (arc, first_alone (LinksJoin table links) arc h.1, sym h.0)
+    pub misjoined_only : (arc : ArcNode) (fault : FlatFault) → IsMisjoined table links arc fault → IsFirstMisjoined table links (arc ∷ []) fault
+    misjoined_only arc NoMemory h = tt
+    misjoined_only arc (DuplicateId id) h = absurd h
+    misjoined_only arc (UnknownId id by) h = absurd h
+    misjoined_only arc (RefKind id) h = absurd h
+    misjoined_only arc (RefCycle id) h = absurd h
+    misjoined_only arc (ArcEnds id) h = (arc, first_only (LinksJoin table links) arc h.1, sym h.0)

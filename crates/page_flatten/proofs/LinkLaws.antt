@@ -1,4 +1,4 @@
--- The elements so far are numbered and linked: those that the items so far begin, behind the net itself.
+-- The elements so far are numbered and linked: those that the items so far begin, after the net itself.
 use Rattle.std.proofs.Common.{◌≡◌, refl, sym, ap, ◌∙◌, subst, ℕ, zero, suc, ◌+◌, ◌<◌, ◌≤◌, Bool, true, false, MatchBool, List, [], ◌∷◌, ◌++◌, Option, Some, None, length, drop, get_or, slice_get, map, append_assoc, inl, inr, arith}
 use Rattle.std.specs.List.{flat_map, AllByRecursion}
 use Rattle.std.specs.Option.{option_to_list}
@@ -15,9 +15,9 @@ use Rattle.page_flatten.specs.declared.fault.FlatFault.TheVariants.{NoMemory, Du
 use Rattle.page_flatten.specs.Rules.{AreDistinct, IsKnown, IsFirstRepeated, ids_of, IsAnswered}
 use Rattle.page_flatten.specs.Tables.{table_ids, item_entry, IsNumbered, IsRepeated, places_after, transitions_after, AreLinksOf}
 use Rattle.page_flatten.proofs.Lists.{within, from_push}
-use Rattle.page_flatten.proofs.Passes.{item_and_rest, each_behind}
+use Rattle.page_flatten.proofs.Passes.{item_and_rest, each_after}
 
--- the element of the first item, and those behind it
+-- the element of the first item, and those after it
 elements_cons : (item : Item) (items : List Item) (p t : ℕ) → elements_from (item ∷ items) p t ≡ elements_from (item ∷ []) p t ++ elements_from items (places_after item p) (transitions_after item t)
 elements_cons (Page page) items p t = refl
 elements_cons PageEnd items p t = refl
@@ -44,7 +44,7 @@ next_element net k item front p t within is split =
     ∙ ap (λ l. front ++ l) (elements_cons item (drop (k + 1) net.items) p t)
     ∙ sym (append_assoc front (elements_from (item ∷ []) p t) (elements_from (drop (k + 1) net.items) (places_after item p) (transitions_after item t)))
 
--- behind the last item there is no element
+-- after the last item there is no element
 last_element : (net : NetTree) (k : ℕ) (front : List Element) (p t : ℕ) → length net.items ≤ k → elements net ≡ front ++ elements_from (drop k net.items) p t → elements net ≡ front
 last_element net k front p t all split =
     split ∙ ap (λ items. front ++ elements_from items p t) (drop_all k net.items all) ∙ append-nil front
@@ -57,10 +57,10 @@ pub record AreNumbersUpTo (net : NetTree) (k : ℕ) (numbers : List (List ℕ ×
   pub numbered : numbers ≡ map entry_of front
   pub distinct : AreDistinct (table_ids numbers)
 
-distinct_alone : (id : List ℕ) → AreDistinct (id ∷ [])
-distinct_alone id zero zero one at also = refl
-distinct_alone id zero (suc n) one at also = absurd cc
-distinct_alone id (suc m) n one at also = absurd cc
+distinct_only : (id : List ℕ) → AreDistinct (id ∷ [])
+distinct_only id zero zero one at also = refl
+distinct_only id zero (suc n) one at also = absurd cc
+distinct_only id (suc m) n one at also = absurd cc
 
 distinct_push : (ids : List (List ℕ)) (id : List ℕ) → AreDistinct ids → ((n : ℕ) → slice_get ids n ≡ Some id → ⊥) → AreDistinct (ids ++ id ∷ [])
 distinct_push ids id distinct fresh m n one at also =
@@ -83,7 +83,7 @@ numbers_none net true numbers added = record {
   transition = 0;
   split = refl;
   numbered = added.0;
-  distinct = subst (λ l. AreDistinct (table_ids l)) (sym added.0) (distinct_alone net.id);
+  distinct = subst (λ l. AreDistinct (table_ids l)) (sym added.0) (distinct_only net.id);
 }
 numbers_none net false numbers added = let none = added.1 in absurd cc
 
@@ -126,7 +126,7 @@ repeated_here net k item numbers id kind n within is before entry at =
     record {
       front = table_ids numbers;
       back = table_ids (map entry_of rest);
-      stands = sym (ids_are (elements net)) ∙ ap table_ids all ∙ ap table_ids (append_assoc numbers ((id, kind) ∷ []) (map entry_of rest)) ∙ map-append (λ e. e.0) numbers ((id, kind) ∷ map entry_of rest);
+      occurs = sym (ids_are (elements net)) ∙ ap table_ids all ∙ ap table_ids (append_assoc numbers ((id, kind) ∷ []) (map entry_of rest)) ∙ map-append (λ e. e.0) numbers ((id, kind) ∷ map entry_of rest);
       before = before.distinct;
       place = n;
       repeated = at;
@@ -165,10 +165,10 @@ transitions_rise : (item : Item) (t : ℕ) → transitions_after item t ≤ t + 
 transitions_rise (Transition node) t = omega arith
 transitions_rise _ t = omega arith
 
--- what the item at k mentions, and what those behind it do
+-- what the item at k mentions, and what those after it do
 known_rest : (numbers : List (List ℕ × Option NodeKind)) (net : NetTree) (k : ℕ) (item : Item) → k < length net.items → item ≡ get_or net.items k item → AllByRecursion (IsKnown numbers) (flat_map mentions (drop k net.items)) → AllByRecursion (IsKnown numbers) (mentions item) × AllByRecursion (IsKnown numbers) (flat_map mentions (drop (k + 1) net.items))
 known_rest numbers net k item within is known =
-    each_behind (IsKnown numbers) (mentions item) (flat_map mentions (drop (k + 1) net.items)) (subst (λ items. AllByRecursion (IsKnown numbers) (flat_map mentions items)) (item_and_rest net.items k item within is) known)
+    each_after (IsKnown numbers) (mentions item) (flat_map mentions (drop (k + 1) net.items)) (subst (λ items. AllByRecursion (IsKnown numbers) (flat_map mentions items)) (item_and_rest net.items k item within is) known)
 
 pub known_here : (numbers : List (List ℕ × Option NodeKind)) (net : NetTree) (k : ℕ) (item : Item) (p t : ℕ) (links : List Link) → k < length net.items → item ≡ get_or net.items k item → AreLinksUpTo numbers net k p t links → AllByRecursion (IsKnown numbers) (mentions item)
 known_here numbers net k item p t links within is before = (known_rest numbers net k item within is before.known).0

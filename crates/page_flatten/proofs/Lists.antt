@@ -1,4 +1,4 @@
--- What stands at a number of a list, after a write, a push and a map.
+-- What occurs at a number of a list, after a write, a push and a map.
 use Rattle.std.proofs.Common.{◌≡◌, ◌≢◌, refl, sym, ap, ◌∙◌, ℕ, zero, suc, ◌<◌, List, [], ◌∷◌, ◌++◌, Option, Some, None, length, map, set, get_or, slice_get, ◌⊎◌, inl, inr, IfNone, arith}
 
 pub some_is : {X : Type 0} {a b : X} → Some a ≡ Some b → a ≡ b
@@ -35,7 +35,7 @@ from_map f [] n y at = absurd cc
 from_map f (z ∷ xs) zero y at = (z, refl, some_is at)
 from_map f (z ∷ xs) (suc n) y at = from_map f xs n y at
 
--- what stands in a list with one more at its end
+-- what is in a list with one more at its end
 pub from_push : {X : Type 0} (xs : List X) (y : X) (n : ℕ) (x : X) → slice_get (xs ++ y ∷ []) n ≡ Some x → (slice_get xs n ≡ Some x) ⊎ ((n ≡ length xs) × (y ≡ x))
 from_push [] y zero x at = inr (refl, some_is at)
 from_push [] y (suc n) x at = absurd cc

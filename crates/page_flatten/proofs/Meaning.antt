@@ -53,37 +53,37 @@ module _ (elements : List Element) (links : List Link) (distinct : AreDistinct (
       record {
         number = n;
         kind = kind.0;
-        stands = get_map entry_of elements n record { id = id; role = Real end } at ∙ ap (λ k. Some (id, k)) kind.1;
+        occurs = get_map entry_of elements n record { id = id; role = Real end } at ∙ ap (λ k. Some (id, k)) kind.1;
         ends = record { steps = 0; chain = link.1 ∙ ap Some link.2 };
       }
   ends_by_id id end (to_what_it_names n _ kind target _ at rest) =
-      let behind = ends_by_id target end rest in
+      let beyond = ends_by_id target end rest in
       let link = linked_at (map entry_of elements) elements links are n record { id = id; role = Reference kind target } at in
       let lead = link.2 in
-      let same : lead.0 ≡ behind.number = one_number (map entry_of elements) distinct lead.0 behind.number target (Some lead.2) (Some behind.kind) lead.3 behind.stands in
+      let same : lead.0 ≡ beyond.number = one_number (map entry_of elements) distinct lead.0 beyond.number target (Some lead.2) (Some beyond.kind) lead.3 beyond.occurs in
       record {
         number = n;
         kind = kind;
-        stands = get_map entry_of elements n record { id = id; role = Reference kind target } at;
-        ends = record { steps = suc behind.ends.steps; chain = (behind.number, link.1 ∙ ap Some lead.1 ∙ ap (λ k. Some (Leads k)) same, behind.ends.chain) };
+        occurs = get_map entry_of elements n record { id = id; role = Reference kind target } at;
+        ends = record { steps = suc beyond.ends.steps; chain = (beyond.number, link.1 ∙ ap Some lead.1 ∙ ap (λ k. Some (Leads k)) same, beyond.ends.chain) };
       }
 
   -- the element with a number is the one with its id
   element_named : (n : ℕ) (element : Element) (id : List ℕ) (kind : NodeKind) → slice_get elements n ≡ Some element → slice_get (map entry_of elements) n ≡ Some (id, Some kind) → element.id ≡ id
-  element_named n element id kind at stands = (some_pair_parts element.id id (kind_of element.role) (Some kind) (sym (get_map entry_of elements n element at) ∙ stands)).0
+  element_named n element id kind at occurs = (some_pair_parts element.id id (kind_of element.role) (Some kind) (sym (get_map entry_of elements n element at) ∙ occurs)).0
 
   resolves_from : (s n : ℕ) (id : List ℕ) (kind : NodeKind) (end : End) → EndsIn s links n end → slice_get (map entry_of elements) n ≡ Some (id, Some kind) → Resolves elements id end
-  resolves_from zero n id kind end h stands =
+  resolves_from zero n id kind end h occurs =
       let back = linked_back (map entry_of elements) elements links are n (Ends end) h in
       let role : back.0.role ≡ Real end = real_from_link (map entry_of elements) back.0.role end back.2 in
-      let named : back.0.id ≡ id = element_named n back.0 id kind back.1 stands in
+      let named : back.0.id ≡ id = element_named n back.0 id kind back.1 occurs in
       to_itself n id end (back.1 ∙ (λ i. Some record { id = named i; role = role i }))
-  resolves_from (suc s) n id kind end h stands =
+  resolves_from (suc s) n id kind end h occurs =
       let back = linked_back (map entry_of elements) elements links are n (Leads h.0) h.1 in
       let reference = reference_from_link (map entry_of elements) back.0.role h.0 back.2 in
-      let named : back.0.id ≡ id = element_named n back.0 id kind back.1 stands in
+      let named : back.0.id ≡ id = element_named n back.0 id kind back.1 occurs in
       to_what_it_names n id reference.0 reference.1 end (back.1 ∙ (λ i. Some record { id = named i; role = reference.2 i }))
       (resolves_from s h.0 reference.1 reference.3 end h.2 reference.4)
 
   pub resolves_by_id : (id : List ℕ) (end : End) → EndsById (map entry_of elements) links id end → Resolves elements id end
-  resolves_by_id id end h = resolves_from h.ends.steps h.number id h.kind end h.ends.chain h.stands
+  resolves_by_id id end h = resolves_from h.ends.steps h.number id h.kind end h.ends.chain h.occurs

@@ -15,7 +15,7 @@ use Rattle.page_flatten.specs.Rules.{AreDistinct, ids_of, IsFirstWithout, IsFirs
 use Rattle.page_flatten.specs.Flat.{FlatArc, IsResolved, weight_between}
 use Rattle.page_flatten.specs.Laws.{HasOneFault, BreaksWhereFaulty, HasOneFlatNet}
 use Rattle.page_flatten.proofs.Lists.{some_is, within, get_map, get_front}
-use Rattle.page_flatten.proofs.Passes.{each_behind}
+use Rattle.page_flatten.proofs.Passes.{each_after}
 
 first_is_first : {X : Type 0} (P : X → Type 0) (f g b c : List X) (x y : X) → f ++ x ∷ b ≡ g ++ y ∷ c → AllByRecursion P f → AllByRecursion P g → (P x → ⊥) → (P y → ⊥) → x ≡ y
 first_is_first P [] [] b c x y e good other no_x no_y = cc
@@ -27,11 +27,11 @@ first_is_first P (z ∷ f) (w ∷ g) b c x y e good other no_x no_y =
 
 -- two first members without the property are one
 one_first : {X : Type 0} (P : X → Type 0) (xs : List X) (x y : X) → IsFirstWithout P xs x → IsFirstWithout P xs y → x ≡ y
-one_first P xs x y a b = first_is_first P a.front b.front a.back b.back x y (sym a.stands ∙ b.stands) a.before b.before a.lacks b.lacks
+one_first P xs x y a b = first_is_first P a.front b.front a.back b.back x y (sym a.occurs ∙ b.occurs) a.before b.before a.lacks b.lacks
 
 -- and there is none where each has it
 none_first : {X : Type 0} (P : X → Type 0) (xs : List X) (x : X) → AllByRecursion P xs → IsFirstWithout P xs x → ⊥
-none_first P xs x all first = first.lacks (each_behind P first.front (x ∷ first.back) (subst (AllByRecursion P) first.stands all)).1.0
+none_first P xs x all first = first.lacks (each_after P first.front (x ∷ first.back) (subst (AllByRecursion P) first.occurs all)).1.0
 
 get_back : {X : Type 0} (xs ys : List X) (x : X) → slice_get (xs ++ x ∷ ys) (length xs) ≡ Some x
 get_back [] ys x = refl
@@ -45,7 +45,7 @@ get_of_front (z ∷ xs) ys (suc n) x below at = get_of_front xs ys n x (omega ar
 -- where the one front is the shorter, the other one repeats an id
 longer_repeats : (ids : List (List ℕ)) (x y : List ℕ) (a : IsFirstRepeated ids x) (b : IsFirstRepeated ids y) → length a.front < length b.front → ⊥
 longer_repeats ids x y a b shorter =
-    let whole : a.front ++ x ∷ a.back ≡ b.front ++ y ∷ b.back = sym a.stands ∙ b.stands in
+    let whole : a.front ++ x ∷ a.back ≡ b.front ++ y ∷ b.back = sym a.occurs ∙ b.occurs in
     let before = within a.front a.place x a.repeated in
     let here : slice_get b.front (length a.front) ≡ Some x =
     get_of_front b.front (y ∷ b.back) (length a.front) x shorter (ap (λ l. slice_get l (length a.front)) (sym whole) ∙ get_back a.front a.back x) in
@@ -61,7 +61,7 @@ one_repeated ids x y a b =
       | inr from ↦ elim (cases_lt (length b.front) (length a.front)) [
         | inl shorter ↦ absurd (longer_repeats ids y x b a shorter)
         | inr also ↦
-            let whole : a.front ++ x ∷ a.back ≡ b.front ++ y ∷ b.back = sym a.stands ∙ b.stands in
+            let whole : a.front ++ x ∷ a.back ≡ b.front ++ y ∷ b.back = sym a.occurs ∙ b.occurs in
             let long : length a.front ≡ length b.front = omega arith in
             some_is (sym (get_back a.front a.back x) ∙ ap (λ l. slice_get l (length a.front)) whole ∙ ap (λ n. slice_get (b.front ++ y ∷ b.back) n) long ∙ get_back b.front b.back y)
       ]
@@ -70,8 +70,8 @@ one_repeated ids x y a b =
 none_repeated : (ids : List (List ℕ)) (x : List ℕ) → AreDistinct ids → IsFirstRepeated ids x → ⊥
 none_repeated ids x distinct a =
     let before = within a.front a.place x a.repeated in
-    let early : slice_get ids a.place ≡ Some x = ap (λ l. slice_get l a.place) a.stands ∙ get_front a.front (x ∷ a.back) a.place x a.repeated in
-    let here : slice_get ids (length a.front) ≡ Some x = ap (λ l. slice_get l (length a.front)) a.stands ∙ get_back a.front a.back x in
+    let early : slice_get ids a.place ≡ Some x = ap (λ l. slice_get l a.place) a.occurs ∙ get_front a.front (x ∷ a.back) a.place x a.repeated in
+    let here : slice_get ids (length a.front) ≡ Some x = ap (λ l. slice_get l (length a.front)) a.occurs ∙ get_back a.front a.back x in
     let same : a.place ≡ length a.front = distinct a.place (length a.front) x early here in
     omega arith
 
@@ -131,10 +131,10 @@ module _ (list : List Element) (distinct : AreDistinct (map (λ (e : Element). e
   one_end_of id a b (to_itself m _ _ at) (to_itself n _ _ also) = let e : Real a ≡ Real b = one_role m n id (Real a) (Real b) at also in cc
   one_end_of id a b (to_itself m _ _ at) (to_what_it_names n _ kind target _ also rest) = let e : Real a ≡ Reference kind target = one_role m n id (Real a) (Reference kind target) at also in absurd cc
   one_end_of id a b (to_what_it_names m _ kind target _ at rest) (to_itself n _ _ also) = let e : Reference kind target ≡ Real b = one_role m n id (Reference kind target) (Real b) at also in absurd cc
-  one_end_of id a b (to_what_it_names m _ kind target _ at rest) (to_what_it_names n _ other goal _ also behind) =
+  one_end_of id a b (to_what_it_names m _ kind target _ at rest) (to_what_it_names n _ other goal _ also beyond) =
       let e : Reference kind target ≡ Reference other goal = one_role m n id (Reference kind target) (Reference other goal) at also in
       let same : goal ≡ target = cc in
-      one_end_of target a b rest (subst (λ t. Resolves list t b) same behind)
+      one_end_of target a b rest (subst (λ t. Resolves list t b) same beyond)
 
   one_resolved : (arcs : List ArcNode) (xs ys : List FlatArc) → AllZip (IsResolved list) arcs xs → AllZip (IsResolved list) arcs ys → xs ≡ ys
   one_resolved [] [] [] a b = refl

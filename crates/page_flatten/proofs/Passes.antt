@@ -5,7 +5,7 @@ use Rattle.std.specs.List.{flat_map, AllByRecursion}
 use Rattle.std.proofs.lemmas.List.{append-nil, drop_more, drop_all}
 use Rattle.page_flatten.specs.Rules.{IsFirstWithout}
 
--- the item that is read, and those behind it
+-- the item that is read, and those after it
 pub item_and_rest : {X : Type 0} (items : List X) (k : ℕ) (item : X) → k < length items → item ≡ get_or items k item → drop k items ≡ item ∷ drop (k + 1) items
 item_and_rest items k item within is = drop_more items k item within ∙ ap (λ x. x ∷ drop (k + 1) items) (sym is)
 
@@ -13,9 +13,9 @@ pub each_append : {Y : Type 0} (P : Y → Type 0) (xs ys : List Y) → AllByRecu
 each_append P [] ys a b = b
 each_append P (x ∷ xs) ys a b = (a.0, each_append P xs ys a.1 b)
 
-pub each_behind : {Y : Type 0} (P : Y → Type 0) (xs ys : List Y) → AllByRecursion P (xs ++ ys) → AllByRecursion P xs × AllByRecursion P ys
-each_behind P [] ys a = (tt, a)
-each_behind P (x ∷ xs) ys a = let rest = each_behind P xs ys a.1 in ((a.0, rest.0), rest.1)
+pub each_after : {Y : Type 0} (P : Y → Type 0) (xs ys : List Y) → AllByRecursion P (xs ++ ys) → AllByRecursion P xs × AllByRecursion P ys
+each_after P [] ys a = (tt, a)
+each_after P (x ∷ xs) ys a = let rest = each_after P xs ys a.1 in ((a.0, rest.0), rest.1)
 
 pub each_weaker : {Y : Type 0} (P Q : Y → Type 0) → ((y : Y) → P y → Q y) → (ys : List Y) → AllByRecursion P ys → AllByRecursion Q ys
 each_weaker P Q weaker [] a = tt
@@ -25,21 +25,21 @@ pub first_same : {Y : Type 0} (P Q : Y → Type 0) → ((y : Y) → P y → Q y)
 first_same P Q there back ys y first = record {
   front = first.front;
   back = first.back;
-  stands = first.stands;
+  occurs = first.occurs;
   before = each_weaker P Q there first.front first.before;
   lacks = λ good. first.lacks (back y good);
 }
 
 -- the first of a list of one
-pub first_alone : {Y : Type 0} (P : Y → Type 0) (y : Y) → (P y → ⊥) → IsFirstWithout P (y ∷ []) y
-first_alone P y lacks = record { front = []; back = []; stands = refl; before = tt; lacks = lacks }
+pub first_only : {Y : Type 0} (P : Y → Type 0) (y : Y) → (P y → ⊥) → IsFirstWithout P (y ∷ []) y
+first_only P y lacks = record { front = []; back = []; occurs = refl; before = tt; lacks = lacks }
 
--- the first of a list behind one that is good
-pub first_behind : {Y : Type 0} (P : Y → Type 0) (x : Y) (ys : List Y) (y : Y) → P x → IsFirstWithout P ys y → IsFirstWithout P (x ∷ ys) y
-first_behind P x ys y good first = record {
+-- the first of a list after one that is good
+pub first_after : {Y : Type 0} (P : Y → Type 0) (x : Y) (ys : List Y) (y : Y) → P x → IsFirstWithout P ys y → IsFirstWithout P (x ∷ ys) y
+first_after P x ys y good first = record {
   front = x ∷ first.front;
   back = first.back;
-  stands = ap (λ l. x ∷ l) first.stands;
+  occurs = ap (λ l. x ∷ l) first.occurs;
   before = (good, first.before);
   lacks = first.lacks;
 }
@@ -49,7 +49,7 @@ pub first_before : {Y : Type 0} (P : Y → Type 0) (xs ys : List Y) (y : Y) → 
 first_before P xs ys y first = record {
   front = first.front;
   back = first.back ++ ys;
-  stands = ap (λ l. l ++ ys) first.stands ∙ append_assoc first.front (y ∷ first.back) ys;
+  occurs = ap (λ l. l ++ ys) first.occurs ∙ append_assoc first.front (y ∷ first.back) ys;
   before = first.before;
   lacks = first.lacks;
 }
@@ -88,7 +88,7 @@ module _ {X Y : Type 0} (f : X → List Y) (Good : Y → Type 0) (items : List X
       record {
         front = passed.front ++ here.front;
         back = here.back;
-        stands = whole ∙ ap (λ l. passed.front ++ l) here.stands ∙ sym (append_assoc passed.front here.front (y ∷ here.back));
+        occurs = whole ∙ ap (λ l. passed.front ++ l) here.occurs ∙ sym (append_assoc passed.front here.front (y ∷ here.back));
         before = each_append Good passed.front here.front passed.each here.before;
         lacks = here.lacks;
       }

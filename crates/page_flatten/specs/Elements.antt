@@ -40,7 +40,7 @@ elements_from (Arc arc ∷ items) p t = record { id = arc.id; role = NoNode } �
 abbrev pub elements : NetTree → List Element
 elements net = record { id = net.id; role = NoNode } ∷ elements_from net.items 0 0
 
--- the kind of node that an element is, if it is one; a reference node has the kind of what it may stand for
+-- the kind of node that an element is, if it is one; a reference node has the kind of what it may represent
 abbrev pub kind_of : Role → Option NodeKind
 kind_of NoNode = None
 kind_of (Real (AtPlace p)) = Some OfPlaces
@@ -60,7 +60,7 @@ pub record Mention : Type 0 where
   pub id : List ℕ
   pub by : List ℕ
 
--- what an item mentions; the source of an arc stands before its target
+-- what an item mentions; the source of an arc comes before its target
 abbrev pub mentions : Item → List Mention
 mentions (RefPlace node) = record { id = node.target; by = node.id } ∷ []
 mentions (RefTransition node) = record { id = node.target; by = node.id } ∷ []

@@ -1,4 +1,4 @@
--- The elements of a document, the five rules that it must keep, and the flat net that it stands for.
+-- The elements of a document, the five rules that it must keep, and the flat net that it represents.
 pub mod Elements
 pub mod Chains
 pub mod Rules

@@ -1,4 +1,4 @@
--- The five rules that a document must keep to stand for a flat net, and the first broken one.
+-- The five rules that a document must keep to represent a flat net, and the first broken one.
 use Rattle.std.specs.Prelude.{◌≡◌, ℕ, List, ◌∷◌, ◌++◌, Option, Some, map, slice_get}
 use Rattle.std.specs.List.{flat_map, AllByRecursion}
 use Rattle.net_values.specs.declared.document.Document.{Document}
@@ -12,7 +12,7 @@ use Rattle.page_flatten.specs.declared.node.NodeKind.{NodeKind}
 use Rattle.page_flatten.specs.Elements.{elements, entries, Mention, mentions, ReferenceTo, references, arcs}
 use Rattle.page_flatten.specs.Chains.{Resolves}
 
--- no id stands at two places of the list
+-- no id occurs at two places of the list
 abbrev pub AreDistinct : List (List ℕ) → Type 0
 AreDistinct ids = (m n : ℕ) (id : List ℕ) → slice_get ids m ≡ Some id → slice_get ids n ≡ Some id → m ≡ n
 
@@ -78,15 +78,15 @@ pub record BreaksNoRule (document : Document) : Type 0 where
 pub record IsFirstWithout {X : Type 0} (Property : X → Type 0) (list : List X) (x : X) : Type 0 where
   pub front : List X
   pub back : List X
-  pub stands : list ≡ front ++ x ∷ back
+  pub occurs : list ≡ front ++ x ∷ back
   pub before : AllByRecursion Property front
   pub lacks : Property x → ⊥
 
--- the id is the first of the list that stands before it already
+-- the id is the first of the list that comes before it already
 pub record IsFirstRepeated (ids : List (List ℕ)) (id : List ℕ) : Type 0 where
   pub front : List (List ℕ)
   pub back : List (List ℕ)
-  pub stands : ids ≡ front ++ id ∷ back
+  pub occurs : ids ≡ front ++ id ∷ back
   pub before : AreDistinct front
   pub place : ℕ
   pub repeated : slice_get front place ≡ Some id
@@ -112,7 +112,7 @@ FirstBrokenOf net (ArcEnds id) =
 abbrev pub FirstBroken : Document → FlatFault → Type 0
 FirstBroken document fault = FirstBrokenOf document.net fault
 
--- a fault that may be answered: want of memory, of which nothing is said, or the first broken rule
+-- a fault that may be answered: out of memory, of which nothing is said, or the first broken rule
 abbrev pub IsAnswered : NetTree → FlatFault → Type 0
 IsAnswered net NoMemory = Unit
 IsAnswered net (DuplicateId id) = FirstBrokenOf net (DuplicateId id)

@@ -40,14 +40,14 @@ pub record IsNumbered (old new : List (List ℕ × Option NodeKind))
   pub grown : new ≡ old ++ option_to_list entry
   pub fresh : IfSome entry (λ e. (n : ℕ) → slice_get (table_ids old) n ≡ Some e.0 → ⊥)
 
--- what the fault at one item says: its element has the id of an earlier one. Want of memory says nothing
+-- what the fault at one item says: its element has the id of an earlier one. Out of memory says nothing
 abbrev pub IsRepeated : List (List ℕ × Option NodeKind) → Option (List ℕ × Option NodeKind) → FlatFault → Type 0
 IsRepeated old entry NoMemory = Unit
 IsRepeated old entry (DuplicateId id) =
     (kind : Option NodeKind) × (entry ≡ Some (id, kind)) × (n : ℕ) × (slice_get (table_ids old) n ≡ Some id)
 IsRepeated old entry _ = ⊥
 
--- the numbers of the next place and the next transition behind an item
+-- the numbers of the next place and the next transition after an item
 abbrev pub places_after : Item → ℕ → ℕ
 places_after (Place node) p = p + 1
 places_after _ p = p
@@ -91,7 +91,7 @@ pub record EndsById (table : List (List ℕ × Option NodeKind))
     (links : List Link) (id : List ℕ) (end : End) : Type 0 where
   pub number : ℕ
   pub kind : NodeKind
-  pub stands : slice_get table number ≡ Some (id, Some kind)
+  pub occurs : slice_get table number ≡ Some (id, Some kind)
   pub ends : EndsAt links number end
 
 -- the chain from a reference node ends, by the tables
@@ -107,7 +107,7 @@ pub record LinksJoin (table : List (List ℕ × Option NodeKind))
   pub target_ends : EndsById table links arc.target target
   pub apart : IsPlaceAndTransition source target
 
--- what the fault of each pass over the items says of its list: want of memory says nothing
+-- what the fault of each pass over the items says of its list: out of memory says nothing
 abbrev pub IsFirstUnknown : List (List ℕ × Option NodeKind) → List Mention → FlatFault → Type 0
 IsFirstUnknown table list NoMemory = Unit
 IsFirstUnknown table list (UnknownId id by) = IsFirstWithout (IsKnown table) list record { id = id; by = by }
@@ -160,7 +160,7 @@ pub record AddsArcs (table : List (List ℕ × Option NodeKind))
   pub nodes : KeepsNodes old new
   pub count : new.arcs ≡ old.arcs + length list
 
--- what the fault at one reference node says: want of memory says nothing
+-- what the fault at one reference node says: out of memory says nothing
 abbrev pub IsEndless : List (List ℕ × Option NodeKind) → List Link → RefNode → FlatFault → Type 0
 IsEndless table links node NoMemory = Unit
 IsEndless table links node (RefCycle id) = (id ≡ node.id) × ((end : End) → EndsById table links node.target end → ⊥)
@@ -183,7 +183,7 @@ pub record AddsNodes (old new : NetLists) (item : Item) : Type 0 where
   pub transitions : transition_ids new ≡ transition_ids old ++ flat_transitions item
   pub arcs : HasNoArcs old → HasNoArcs new
 
--- what the fault at one arc says: want of memory says nothing
+-- what the fault at one arc says: out of memory says nothing
 abbrev pub IsMisjoined : List (List ℕ × Option NodeKind) → List Link → ArcNode → FlatFault → Type 0
 IsMisjoined table links arc NoMemory = Unit
 IsMisjoined table links arc (ArcEnds id) = (id ≡ arc.id) × (LinksJoin table links arc → ⊥)

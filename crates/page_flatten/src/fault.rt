@@ -2,8 +2,8 @@ ghost use Rattle.std.specs.Prelude.{◌≡◌};
 
 use net_values::{NoMemory, Text};
 
-/// Why a document stands for no flat net: the first of the five rules that it breaks, with ids of
-/// the first place in document order that breaks it, or want of memory.
+/// Why a document represents no flat net: the first of the five rules that it breaks, with ids of
+/// the first place in document order that breaks it, or out of memory.
 #[derive(Drop)]
 pub enum FlatFault {
     /// The system refused memory.

@@ -18,7 +18,7 @@ use std::alloc::Global;
 /// all arcs whose resolved ends they are. A place or a transition resolves to itself, a reference
 /// node to what the node that its `ref` names resolves to. Arcs may join nodes of different pages.
 ///
-/// Refused, besides for want of memory, exactly where one of these rules is broken, the first of
+/// Refused, besides out of memory, exactly where one of these rules is broken, the first of
 /// them:
 /// 1. `DuplicateId`: ids are unique; net, pages, nodes and arcs are counted.
 /// 2. `UnknownId`: each `ref`, `source` and `target` is the id of a node.

@@ -1,4 +1,4 @@
-//! The flat net that a document stands for: pages and reference nodes are resolved away, exactly
+//! The flat net that a document represents: pages and reference nodes are resolved away, exactly
 //! where the document breaks none of the five rules, and else the first broken rule is named.
 #![tactic(auto)]
 

@@ -40,7 +40,7 @@ struct Next {
     transition: usize,
 }
 
-/// The next numbers behind an item.
+/// The next numbers after an item.
 fn next_after(item: &Item, next: Next) -> Next
     requires place { next.place < 2 ^ 63 }
     requires transition { next.transition < 2 ^ 63 }

@@ -1,16 +1,16 @@
 -- The loop keeps what was read up to its offset. Where it stops the first fault is named: what was read
--- makes the place at which it stops the first that is faulty.
+-- makes the offset at which it stops the first that is faulty.
 use Rattle.std.proofs.Common.{◌≡◌, ℕ, ◌<◌, ◌≤◌, List, Some, None, sym, ap, subst, ◌∙◌, arith, length}
 use Rattle.std.specs.Prelude.{IsUtf8}
 use Rattle.pnml_grammar.specs.declared.token.Token.{Token}
 use Rattle.pnml_grammar.specs.declared.token.Token.TheVariants as tokens
-use Rattle.pnml_grammar.specs.Tokens.{TokenAt, first_place}
+use Rattle.pnml_grammar.specs.Tokens.{TokenAt, first_offset}
 use Rattle.pnml_grammar.specs.FirstFault.{HasNoToken}
 use Rattle.pnml_grammar.specs.Machine.{State, start, reason_of, next}
 use Rattle.pnml_grammar.specs.ReadTo.{IsReadTo}
 use Rattle.pnml_grammar.proofs.RunLaws.{some_is}
-use Rattle.pnml_grammar.proofs.PlaceLaws.{token_goes_on, token_end_inside}
-use Rattle.pnml_grammar.proofs.TokenLaws.{one_token_stands}
+use Rattle.pnml_grammar.proofs.OffsetLaws.{token_goes_on, token_end_inside}
+use Rattle.pnml_grammar.proofs.TokenLaws.{one_token_occurs}
 use Rattle.pnml_grammar.proofs.ReadToLaws.{nothing_is_read, declaration_is_read, token_is_read}
 use Rattle.pnml_grammar.proofs.FaultLaws.{missing_token_is_faulty, refused_token_is_faulty}
 use Rattle.pnml_token.specs.declared.step.Step.{Step}
@@ -23,26 +23,26 @@ use Rattle.pnml_decode.specs.declared.stop.Stop.TheVariants as stops
 use Rattle.pnml_decode.specs.Stops.{IfBecause}
 use Rattle.pnml_decode.specs.Faults.{NamesFirstFault, IsMissing, declaration_end, refusal_at}
 
--- ---- where no token stands
+-- ---- where no token occurs
 
 pub missing_is_first : (refusal : DocFault) (bytes : List ℕ) (k : ℕ) (state : State) → IsUtf8 bytes → IsReadTo bytes k state → IsMissing refusal bytes k → NamesFirstFault refusal bytes
 missing_is_first refusals.NoMemory bytes k state text read missing = tt
-missing_is_first (refusals.At place reason) bytes k state text read missing = (
+missing_is_first (refusals.At offset reason) bytes k state text read missing = (
   text,
-  missing_token_is_faulty bytes place state reason (subst (λ (p : ℕ). IsReadTo bytes p state) (sym missing.0) read)
+  missing_token_is_faulty bytes offset state reason (subst (λ (p : ℕ). IsReadTo bytes p state) (sym missing.0) read)
       (subst (λ (p : ℕ). p < length bytes) (sym missing.0) missing.1) (subst (λ (p : ℕ). HasNoToken bytes p reason) (sym missing.0) missing.2),
 )
 missing_is_first _ bytes k state text read missing = absurd missing
 
--- at the first place nothing was read before
-nothing_before : (bytes : List ℕ) (k : ℕ) → k ≡ first_place bytes → ((e : ℕ) → TokenAt bytes k tokens.Declaration e → ⊥) → IsReadTo bytes k start
+-- at the first offset nothing was read before
+nothing_before : (bytes : List ℕ) (k : ℕ) → k ≡ first_offset bytes → ((e : ℕ) → TokenAt bytes k tokens.Declaration e → ⊥) → IsReadTo bytes k start
 nothing_before bytes k first none =
     subst (λ (p : ℕ). IsReadTo bytes p start) (sym first) (nothing_is_read bytes (λ e at. none e (subst (λ (p : ℕ). TokenAt bytes p tokens.Declaration e) (sym first) at)))
 
-pub missing_in_front : (refusal : DocFault) (bytes : List ℕ) (k : ℕ) → IsUtf8 bytes → k ≡ first_place bytes → IsMissing refusal bytes k → NamesFirstFault refusal bytes
+pub missing_in_front : (refusal : DocFault) (bytes : List ℕ) (k : ℕ) → IsUtf8 bytes → k ≡ first_offset bytes → IsMissing refusal bytes k → NamesFirstFault refusal bytes
 missing_in_front refusals.NoMemory bytes k text first missing = tt
-missing_in_front (refusals.At place reason) bytes k text first missing =
-    missing_is_first (refusals.At place reason) bytes k start text (nothing_before bytes k first (λ e at. missing.2.nothing_there tokens.Declaration e at)) missing
+missing_in_front (refusals.At offset reason) bytes k text first missing =
+    missing_is_first (refusals.At offset reason) bytes k start text (nothing_before bytes k first (λ e at. missing.2.nothing_there tokens.Declaration e at)) missing
 missing_in_front _ bytes k text first missing = absurd missing
 
 -- ---- the declaration in front
@@ -51,14 +51,14 @@ abbrev IsStep : List ℕ → ℕ → Step → Type 0
 IsStep bytes k step = IfToken step (λ token e. TokenAt bytes k token e) × IfEnd step (k ≡ length bytes)
 
 no_declaration : (bytes : List ℕ) (k : ℕ) (step : Step) → IsStep bytes k step → declaration_end step ≡ None → (e : ℕ) → TokenAt bytes k tokens.Declaration e → ⊥
-no_declaration bytes k (steps.Token token f) is none e at = other token (one_token_stands bytes k token tokens.Declaration f e is.0 at).0 none
+no_declaration bytes k (steps.Token token f) is none e at = other token (one_token_occurs bytes k token tokens.Declaration f e is.0 at).0 none
   where
     other : (token : Token) → token ≡ tokens.Declaration → declaration_end (steps.Token token f) ≡ None → ⊥
     other token same none = let e = sym none ∙ ap (λ (t : Token). declaration_end (steps.Token t f)) same in absurd cc
 no_declaration bytes k steps.End is none e at =
     absurd (omega (arith, is.1, token_goes_on bytes k tokens.Declaration e at, token_end_inside bytes k tokens.Declaration e at))
 
-pub nothing_in_front : (bytes : List ℕ) (k : ℕ) (step : Step) → k ≡ first_place bytes → IfToken step (λ token e. TokenAt bytes k token e) → IfEnd step (k ≡ length bytes)
+pub nothing_in_front : (bytes : List ℕ) (k : ℕ) (step : Step) → k ≡ first_offset bytes → IfToken step (λ token e. TokenAt bytes k token e) → IfEnd step (k ≡ length bytes)
     → declaration_end step ≡ None → IsReadTo bytes k start
 nothing_in_front bytes k step first token end none = nothing_before bytes k first (no_declaration bytes k step (token, end) none)
 
@@ -66,7 +66,7 @@ is_declaration : (bytes : List ℕ) (k : ℕ) (step : Step) (e : ℕ) → IfToke
 is_declaration bytes k (steps.Token tokens.Declaration f) e at some = subst (λ (p : ℕ). TokenAt bytes k tokens.Declaration p) (some_is f e some) at
 is_declaration bytes k _ e at some = absurd cc
 
-pub declaration_in_front : (bytes : List ℕ) (k : ℕ) (step : Step) (e : ℕ) → k ≡ first_place bytes → IfToken step (λ token e. TokenAt bytes k token e)
+pub declaration_in_front : (bytes : List ℕ) (k : ℕ) (step : Step) (e : ℕ) → k ≡ first_offset bytes → IfToken step (λ token e. TokenAt bytes k token e)
     → declaration_end step ≡ Some e → IsReadTo bytes e start × (e ≤ length bytes)
 declaration_in_front bytes k step e first token some =
     let at = is_declaration bytes k step e token some in
@@ -80,7 +80,7 @@ pub token_goes_on_read : (bytes : List ℕ) (k : ℕ) (state after : State) (tok
 token_goes_on_read bytes k state after token e read at taken =
     (subst (λ (s : State). IsReadTo bytes e s) (sym taken.1) (token_is_read bytes k state token e read at taken.0), token_end_inside bytes k token e at)
 
--- one that isn't makes its place the first that is faulty
+-- one that isn't makes its offset the first that is faulty
 pub stop_is_first : (stop : Stop) (bytes : List ℕ) (k : ℕ) (state : State) (token : Token) (e : ℕ) → IsUtf8 bytes → IsReadTo bytes k state → TokenAt bytes k token e
     → IfBecause stop (λ reason. reason_of state token ≡ Some reason) → NamesFirstFault (refusal_at k stop) bytes
 stop_is_first stops.NoMemory bytes k state token e text read at because = tt

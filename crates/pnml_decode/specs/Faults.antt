@@ -12,7 +12,7 @@ use Rattle.pnml_decode.specs.declared.stop.Stop.TheVariants as stops
 use Rattle.pnml_decode.specs.declared.fault.DocFault.{DocFault}
 use Rattle.pnml_decode.specs.declared.fault.DocFault.TheVariants as refusals
 
--- the fault that is named; want of memory names none
+-- the fault that is named; out of memory names none
 abbrev pub fault_of : DocFault → Option Fault
 fault_of refusals.NoMemory = None
 fault_of (refusals.NotUtf8 k) = Some (not_utf8 k)
@@ -23,17 +23,17 @@ fault_of (refusals.Truncated k) = Some (truncated k)
 abbrev pub NamesFirstFault : DocFault → List ℕ → Type 0
 NamesFirstFault refusal bytes = IfSome (fault_of refusal) (λ fault. FirstFault bytes fault)
 
--- the reason where no token stands in front of the bytes
+-- the reason where no token is in front of the bytes
 abbrev pub missing_reason : List ℕ → Reason
 missing_reason bytes = if starts_with nat_eq bytes (codes "<!DOCTYPE") then Doctype else BadToken
 
--- no token stands at the offset, and this is said
+-- no token occurs at the offset, and this is said
 abbrev pub IsMissing : DocFault → List ℕ → ℕ → Type 0
 IsMissing refusals.NoMemory bytes k = Unit
-IsMissing (refusals.At place reason) bytes k = (place ≡ k) × (k < length bytes) × HasNoToken bytes k reason
+IsMissing (refusals.At offset reason) bytes k = (offset ≡ k) × (k < length bytes) × HasNoToken bytes k reason
 IsMissing _ bytes k = ⊥
 
--- the end of the declaration that stands there, if one does
+-- the end of the declaration that is there, if one does
 abbrev pub declaration_end : Step → Option ℕ
 declaration_end (steps.Token tokens.Declaration e) = Some e
 declaration_end _ = None

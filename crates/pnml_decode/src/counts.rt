@@ -17,7 +17,7 @@ const MOST_REFERENCES: usize = 4096;
 
 const MOST_PAGES: usize = 1024;
 
-/// How many elements of the counted kinds have stood outside skipped parts. Reference nodes of both
+/// How many elements of the counted kinds have occurred outside skipped parts. Reference nodes of both
 /// kinds count together.
 #[derive(Clone, Copy)]
 pub(crate) struct Counts {

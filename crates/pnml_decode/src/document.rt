@@ -1,5 +1,5 @@
 ghost use Rattle.std.specs.Prelude.{◌≡◌, ◌≤◌, ℕ, length, IfOk, IfErr, IsUtf8};
-ghost use Rattle.pnml_grammar.specs.Tokens.{TokenAt, first_place};
+ghost use Rattle.pnml_grammar.specs.Tokens.{TokenAt, first_offset};
 ghost use Rattle.pnml_grammar.specs.Documents.{DocBytes};
 ghost use Rattle.pnml_grammar.specs.Machine.{start};
 ghost use Rattle.pnml_grammar.specs.ReadTo.{IsReadTo};
@@ -19,7 +19,7 @@ use std::alloc::Global;
 /// The one document that the bytes spell. It is PNML (ISO/IEC 15909-2) in a narrow profile of XML 1.0.
 ///
 /// Errors, in this order: `NotUtf8(length)` exactly where the bytes aren't UTF-8, with the length of their
-/// longest front that is; `At(offset, reason)` exactly where a place is faulty, the first such, with the
+/// longest front that is; `At(offset, reason)` exactly where a offset is faulty, the first such, with the
 /// first reason that applies there; `Truncated(length)` exactly where the bytes begin a document and end
 /// before it is whole. `NoMemory` where memory runs out.
 pub fn decode(alloc: Global, bytes: &[u8]) -> Result<Document, DocFault>
@@ -43,34 +43,34 @@ fn read_tokens(alloc: Global, bytes: &[u8]) -> Result<Reader, DocFault>
     ensures fault { IfErr result (λ refusal. NamesFirstFault refusal bytes.now) }
 {
     let mut reader = Reader::start(alloc);
-    let mut place = behind_declaration(alloc, bytes)?;
-    'tokens: while let Step::Token(token, end) = step_at(alloc, bytes, place)? {
+    let mut offset = after_declaration(alloc, bytes)?;
+    'tokens: while let Step::Token(token, end) = step_at(alloc, bytes, offset)? {
         match reader.take(token) {
-            Ok(()) => place = end,
-            Err(stop) => return Err(refusal_at(place, stop)),
+            Ok(()) => offset = end,
+            Err(stop) => return Err(refusal_at(offset, stop)),
         }
     }
     Ok(reader)
 }
 
 /// The offset of the first token that is no declaration in front.
-fn behind_declaration(alloc: Global, bytes: &[u8]) -> Result<usize, DocFault>
+fn after_declaration(alloc: Global, bytes: &[u8]) -> Result<usize, DocFault>
     requires { IsUtf8 bytes.now }
-    ensures read { IfOk result (λ place. IsReadTo bytes.now place start) }
-    ensures inside { IfOk result (λ place. place ≤ length bytes.now) }
+    ensures read { IfOk result (λ offset. IsReadTo bytes.now offset start) }
+    ensures inside { IfOk result (λ offset. offset ≤ length bytes.now) }
     ensures fault { IfErr result (λ refusal. NamesFirstFault refusal bytes.now) }
 {
-    let place = behind_mark(bytes);
-    let step = step_at(alloc, bytes, place)?;
+    let offset = after_mark(bytes);
+    let step = step_at(alloc, bytes, offset)?;
     match end_of_declaration(&step) {
         Some(end) => Ok(end),
-        None => Ok(place),
+        None => Ok(offset),
     }
 }
 
-/// The offset behind the byte order mark, or of the front where there is none.
-fn behind_mark(bytes: &[u8]) -> usize
-    ensures place { result ≡ first_place bytes.now }
+/// The offset after the byte order mark, or of the front where there is none.
+fn after_mark(bytes: &[u8]) -> usize
+    ensures offset { result ≡ first_offset bytes.now }
     ensures inside { result ≤ length bytes.now }
 {
     if bytes.starts_with(b"\xEF\xBB\xBF") {
@@ -80,7 +80,7 @@ fn behind_mark(bytes: &[u8]) -> usize
     }
 }
 
-/// The end of the declaration that stands there, if one does.
+/// The end of the declaration that is there, if one does.
 fn end_of_declaration(step: &Step) -> Option<usize>
     ensures { result ≡ declaration_end step.now }
 {
@@ -90,14 +90,14 @@ fn end_of_declaration(step: &Step) -> Option<usize>
     }
 }
 
-/// The token that stands at the offset, and its end, or that the bytes end there.
-fn step_at(alloc: Global, bytes: &[u8], place: usize) -> Result<Step, DocFault>
-    requires { place ≤ length bytes.now }
-    ensures token { IfOk result (λ step. IfToken step (λ token e. TokenAt bytes.now place token e)) }
-    ensures end { IfOk result (λ step. IfEnd step (place ≡ length bytes.now)) }
-    ensures fault { IfErr result (λ refusal. IsMissing refusal bytes.now place) }
+/// The token that occurs at the offset, and its end, or that the bytes end there.
+fn step_at(alloc: Global, bytes: &[u8], offset: usize) -> Result<Step, DocFault>
+    requires { offset ≤ length bytes.now }
+    ensures token { IfOk result (λ step. IfToken step (λ token e. TokenAt bytes.now offset token e)) }
+    ensures end { IfOk result (λ step. IfEnd step (offset ≡ length bytes.now)) }
+    ensures fault { IfErr result (λ refusal. IsMissing refusal bytes.now offset) }
 {
-    match token_at(alloc, bytes, place) {
+    match token_at(alloc, bytes, offset) {
         Ok(step) => Ok(step),
         Err(TokenFault::NoMemory) => Err(DocFault::NoMemory),
         Err(TokenFault::BadToken(at)) => Err(DocFault::At(
@@ -119,11 +119,11 @@ fn reason_without_token(rest: &[u8]) -> Reason
 }
 
 /// What is answered where the reading stops at the offset.
-fn refusal_at(place: usize, stop: Stop) -> DocFault
-    ensures { result ≡ the_refusal place stop }
+fn refusal_at(offset: usize, stop: Stop) -> DocFault
+    ensures { result ≡ the_refusal offset stop }
 {
     match stop {
         Stop::NoMemory => DocFault::NoMemory,
-        Stop::Because(reason) => DocFault::At(place as u64, reason),
+        Stop::Because(reason) => DocFault::At(offset as u64, reason),
     }
 }

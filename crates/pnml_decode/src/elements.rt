@@ -15,7 +15,7 @@ macro_rules! table {
     };
 }
 
-/// A part that is skipped, which may stand in every element but `text`.
+/// A part that is skipped, which may occur in every element but `text`.
 pub(crate) fn is_skipped(element: ElementKind) -> bool
     ensures { result ≡ is_skipped element }
 {
@@ -37,7 +37,7 @@ pub(crate) fn is_number_text(context: Context, element: ElementKind) -> bool
         && matches!(element, ElementKind::Text)
 }
 
-/// What the children of an element stand in; everything in a skipped part is skipped.
+/// What the children of an element are in; everything in a skipped part is skipped.
 pub(crate) fn context_in(context: Context, element: Option<ElementKind>) -> Context
     ensures { result ≡ context_in context element }
 {
@@ -78,7 +78,7 @@ fn context_of_text(context: Context) -> Context
     }
 }
 
-/// Which elements may stand in which at all, by this table.
+/// Which elements may occur in which at all, by this table.
 pub(crate) fn may_hold(context: Context, element: ElementKind) -> bool
     ensures { result ≡ may_hold context element }
 {

@@ -9,6 +9,6 @@ pub enum DocFault {
     NotUtf8(u64),
     /// At this offset, the first such, the document is refused for this reason.
     At(u64, Reason),
-    /// No place is at fault, and the bytes end, after so many, before the document is whole.
+    /// No offset is at fault, and the bytes end, after so many, before the document is whole.
     Truncated(u64),
 }

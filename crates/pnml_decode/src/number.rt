@@ -2,13 +2,13 @@ ghost use Rattle.std.specs.Prelude.{◌≡◌};
 ghost use Rattle.std.specs.List.{prefix_len};
 ghost use Rattle.std.specs.Str.Parse.{AllDigits};
 ghost use Rattle.pnml_grammar.specs.Characters.{is_space};
-ghost use Rattle.pnml_grammar.specs.Runs.{passed, behind};
+ghost use Rattle.pnml_grammar.specs.Runs.{passed, beyond};
 ghost use Rattle.pnml_grammar.specs.Numerals.{is_digit, is_white, numeral, number_in};
 ghost use Rattle.pnml_decode.specs.Numbers.{number_of, narrow_if_any};
 
 use pnml_grammar::Context;
 
-/// White space alone.
+/// White space only.
 pub(crate) fn is_white(bytes: &[u8]) -> bool
     ensures { result ≡ is_white bytes.now }
 {
@@ -48,10 +48,10 @@ fn number(digits: &[u8]) -> Option<u64>
     }
 }
 
-/// The digits at the front, and what stands behind them.
+/// The digits at the front, and what follows them.
 fn split_digits(bytes: &[u8]) -> (&[u8], &[u8])
     ensures digits { result.0.now ≡ passed is_digit bytes.now }
-    ensures rest { result.1.now ≡ behind is_digit bytes.now }
+    ensures rest { result.1.now ≡ beyond is_digit bytes.now }
     ensures decimal { AllDigits 10 result.0.now }
 {
     bytes.split_at(digits_length(bytes))
@@ -66,9 +66,9 @@ fn digits_length(bytes: &[u8]) -> usize
         .count()
 }
 
-/// What stands behind the white space at the front.
+/// What follows the white space at the front.
 fn past_space(bytes: &[u8]) -> &[u8]
-    ensures { result.now ≡ behind is_space bytes.now }
+    ensures { result.now ≡ beyond is_space bytes.now }
 {
     bytes.split_at(space_length(bytes)).1
 }

@@ -10,7 +10,7 @@ use net_values::{Item, NoMemory, Text};
 use pnml_grammar::{Attributes, Context};
 use std::alloc::Global;
 
-/// An open element: what stands in it, its tag, and what its whole children have given.
+/// An open element: what is in it, its tag, and what its whole children have given.
 #[derive(Drop)]
 pub(crate) struct Open {
     pub(crate) context: Context,
@@ -20,7 +20,7 @@ pub(crate) struct Open {
 }
 
 impl Open {
-    /// What stands around the root.
+    /// What is around the root.
     pub(crate) fn outermost(alloc: Global) -> Open
         ensures { frame result ≡ outermost }
     {

@@ -15,7 +15,7 @@ use pnml_grammar::{Attributes, Context, ElementKind, Token};
 use std::alloc::Global;
 
 /// Reads a document token by token: the innermost open element, those around it from the outside
-/// in, and how many counted elements have stood.
+/// in, and how many counted elements have occurred.
 #[derive(Drop)]
 pub(crate) struct Reader {
     pub(crate) top: Open,
@@ -35,7 +35,7 @@ impl Reader {
         }
     }
 
-    /// Takes the next token, or says the first reason why it can't stand there.
+    /// Takes the next token, or says the first reason why it can't are there.
     pub(crate) fn take(&mut self, token: Token) -> Result<(), Stop>
         ensures ok { OnOk result (
             (reason_of (view self.old) token ≡ None)

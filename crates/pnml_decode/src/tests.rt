@@ -23,7 +23,7 @@ fn fault(alloc: Global, bytes: &[u8]) -> Option<DocFault> {
     }
 }
 
-/// One text behind the other.
+/// One text after the other.
 fn joined(alloc: Global, first: &[u8], second: &[u8]) -> Result<Vec<u8>, AllocError> {
     let mut text = Vec::new(alloc);
     text.extend_from_slice(first)?;
@@ -31,7 +31,7 @@ fn joined(alloc: Global, first: &[u8], second: &[u8]) -> Result<Vec<u8>, AllocEr
     Ok(text)
 }
 
-/// The fault is found behind the head and what stands before it, for its reason.
+/// The fault is found after the head and what comes before it, for its reason.
 fn check_fault(
     rt: &impl Abort,
     alloc: Global,

@@ -7,14 +7,14 @@ use Rattle.std.proofs.lemmas.Bool.Decides.{nat_tests}
 use Rattle.std.proofs.lemmas.Slice.Eq.{bytes_eq-Decides}
 use Rattle.pnml_grammar.specs.declared.token.Attribute.{Attribute}
 use Rattle.pnml_grammar.specs.Characters.{Each, is_space}
-use Rattle.pnml_grammar.specs.Values.{Resolves}
+use Rattle.pnml_grammar.specs.Values.{Denotes}
 use Rattle.pnml_grammar.specs.Attributes.{Written, written, IsWritten, IsAttribute, HaveDistinctNames}
-use Rattle.pnml_grammar.specs.Declarations.{Setting, setting}
+use Rattle.pnml_grammar.specs.Declarations.{RawAttribute, raw_attribute}
 use Rattle.pnml_grammar.specs.Resolving.{literal, resolved, text_of, value_of}
-use Rattle.pnml_grammar.specs.Reading.{attribute_of, attributes_of, are_new, setting_name, distinct_attributes_of}
+use Rattle.pnml_grammar.specs.Reading.{attribute_of, attributes_of, are_new, raw_attribute_name, distinct_attributes_of}
 use Rattle.pnml_grammar.proofs.RunLaws.{bind_some, chosen, some_is}
 use Rattle.pnml_grammar.proofs.ValueLaws.{resolves_is, resolves_found}
-use Rattle.pnml_grammar.proofs.TextLaws.{text_again, text_found, BeginsAscii, utf8_split, utf8_past, space_begins, utf8_behind_space}
+use Rattle.pnml_grammar.proofs.TextLaws.{text_again, text_found, BeginsAscii, utf8_split, utf8_past, space_begins, utf8_after_space}
 
 -- ---- the parts of what is written are text
 
@@ -38,9 +38,9 @@ written_texts w rest is h =
     let t0 = w.before ++ (61 ∷ t1) in
     let ascii = quote_is_ascii q is.quote in
     let whole : IsUtf8 (w.gap ++ (w.name ++ t0)) = subst IsUtf8 (parts_again w.gap w.name w.before w.after q w.body rest) h in
-    let named = utf8_split w.name t0 (space_begins w.before (61 ∷ t1) is.before (omega arith)) (utf8_behind_space w.gap (w.name ++ t0) is.gap whole) in
-    let after_equals = utf8_past 61 t1 (omega arith) (utf8_behind_space w.before (61 ∷ t1) is.before named.1) in
-    let inside = utf8_past q t2 ascii (utf8_behind_space w.after (q ∷ t2) is.after after_equals) in
+    let named = utf8_split w.name t0 (space_begins w.before (61 ∷ t1) is.before (omega arith)) (utf8_after_space w.gap (w.name ++ t0) is.gap whole) in
+    let after_equals = utf8_past 61 t1 (omega arith) (utf8_after_space w.before (61 ∷ t1) is.before named.1) in
+    let inside = utf8_past q t2 ascii (utf8_after_space w.after (q ∷ t2) is.after after_equals) in
     let valued = utf8_split w.body (q ∷ rest) ascii inside in
     (record { name = named.0; body = valued.0 }, utf8_past q rest ascii valued.1)
 
@@ -61,11 +61,11 @@ writtens_begin (w ∷ ws) rest each ascii = gap_begins w.gap each.0.gap each.0.a
 
 -- ---- values
 
-pub value_again : (spaces : Bool) (body value : List ℕ) → IsUtf8 body → Resolves (literal spaces body) value → value_of spaces body ≡ Some value
+pub value_again : (spaces : Bool) (body value : List ℕ) → IsUtf8 body → Denotes (literal spaces body) value → value_of spaces body ≡ Some value
 unfolding value_of
 value_again spaces body value text is = rw (text_again body text) (resolves_is (literal spaces body) value is)
 
-pub value_found : (spaces : Bool) (body value : List ℕ) → value_of spaces body ≡ Some value → Resolves (literal spaces body) value
+pub value_found : (spaces : Bool) (body value : List ℕ) → value_of spaces body ≡ Some value → Denotes (literal spaces body) value
 unfolding value_of
 value_found spaces body value e =
     let w = bind_some (text_of body) (λ text. resolved (literal spaces text)) value e in
@@ -74,15 +74,15 @@ value_found spaces body value e =
 
 -- ---- attributes
 
-attribute_made : (s : Setting) (name value : List ℕ) → text_of s.name ≡ Some name → value_of true s.body ≡ Some value → attribute_of s ≡ Some record { name = name; value = value }
+attribute_made : (s : RawAttribute) (name value : List ℕ) → text_of s.name ≡ Some name → value_of true s.body ≡ Some value → attribute_of s ≡ Some record { name = name; value = value }
 unfolding attribute_of
 attribute_made s name value e0 e1 = rw (e0, e1) refl
 
-attribute_again : (w : Written) (a : Attribute) → HasTexts w → IsAttribute w a → attribute_of (setting w) ≡ Some a
+attribute_again : (w : Written) (a : Attribute) → HasTexts w → IsAttribute w a → attribute_of (raw_attribute w) ≡ Some a
 attribute_again w a texts is =
-    attribute_made (setting w) a.name a.value (text_again w.name texts.name ∙ ap (λ (n : List ℕ). Some n) (sym is.name)) (value_again true w.body a.value texts.body is.value)
+    attribute_made (raw_attribute w) a.name a.value (text_again w.name texts.name ∙ ap (λ (n : List ℕ). Some n) (sym is.name)) (value_again true w.body a.value texts.body is.value)
 
-attribute_found : (w : Written) (a : Attribute) → attribute_of (setting w) ≡ Some a → IsAttribute w a
+attribute_found : (w : Written) (a : Attribute) → attribute_of (raw_attribute w) ≡ Some a → IsAttribute w a
 unfolding attribute_of
 attribute_found w a e =
     let n = bind_some (text_of w.name) _ a e in
@@ -91,25 +91,25 @@ attribute_found w a e =
     let here : IsAttribute w (record { name = n.0; value = v.0 }) = record { name = sym (text_found w.name n.0 n.1); value = value_found true w.body v.0 v.1 } in
     subst (IsAttribute w) same here
 
-attributes_made : (s : Setting) (settings : List Setting) (a : Attribute) (attributes : List Attribute) → attribute_of s ≡ Some a → attributes_of settings ≡ Some attributes
-    → attributes_of (s ∷ settings) ≡ Some (a ∷ attributes)
+attributes_made : (s : RawAttribute) (raw_attributes : List RawAttribute) (a : Attribute) (attributes : List Attribute) → attribute_of s ≡ Some a → attributes_of raw_attributes ≡ Some attributes
+    → attributes_of (s ∷ raw_attributes) ≡ Some (a ∷ attributes)
 unfolding attributes_of
-attributes_made s settings a attributes e0 e1 = rw (e0, e1) refl
+attributes_made s raw_attributes a attributes e0 e1 = rw (e0, e1) refl
 
-attributes_again : (ws : List Written) (attributes : List Attribute) → AllByRecursion HasTexts ws → AllZip IsAttribute ws attributes → attributes_of (map setting ws) ≡ Some attributes
+attributes_again : (ws : List Written) (attributes : List Attribute) → AllByRecursion HasTexts ws → AllZip IsAttribute ws attributes → attributes_of (map raw_attribute ws) ≡ Some attributes
 unfolding attributes_of
 attributes_again [] [] texts are = refl
 attributes_again [] (a ∷ attributes) texts are = absurd are
 attributes_again (w ∷ ws) [] texts are = absurd are
 attributes_again (w ∷ ws) (a ∷ attributes) texts are =
-    attributes_made (setting w) (map setting ws) a attributes (attribute_again w a texts.0 are.0) (attributes_again ws attributes texts.1 are.1)
+    attributes_made (raw_attribute w) (map raw_attribute ws) a attributes (attribute_again w a texts.0 are.0) (attributes_again ws attributes texts.1 are.1)
 
-attributes_found : (ws : List Written) (attributes : List Attribute) → attributes_of (map setting ws) ≡ Some attributes → AllZip IsAttribute ws attributes
+attributes_found : (ws : List Written) (attributes : List Attribute) → attributes_of (map raw_attribute ws) ≡ Some attributes → AllZip IsAttribute ws attributes
 unfolding attributes_of
 attributes_found [] attributes e = subst (AllZip IsAttribute []) (some_is [] attributes e) tt
 attributes_found (w ∷ ws) attributes e =
-    let a = bind_some (attribute_of (setting w)) _ attributes e in
-    let more = bind_some (attributes_of (map setting ws)) _ attributes a.2 in
+    let a = bind_some (attribute_of (raw_attribute w)) _ attributes e in
+    let more = bind_some (attributes_of (map raw_attribute ws)) _ attributes a.2 in
     subst (AllZip IsAttribute (w ∷ ws)) (some_is (a.0 ∷ more.0) attributes more.2) (attribute_found w a.0 a.1, attributes_found ws more.0 more.1)
 
 -- ---- names that repeat none
@@ -165,7 +165,7 @@ none_seen : (attributes : List Attribute) → AllByRecursion (IsNew []) attribut
 none_seen [] = tt
 none_seen (a ∷ attributes) = (tt, none_seen attributes)
 
-names_are : (ws : List Written) (attributes : List Attribute) → AllZip IsAttribute ws attributes → map setting_name (map setting ws) ≡ map attribute_name attributes
+names_are : (ws : List Written) (attributes : List Attribute) → AllZip IsAttribute ws attributes → map raw_attribute_name (map raw_attribute ws) ≡ map attribute_name attributes
 names_are [] [] are = refl
 names_are [] (a ∷ attributes) are = absurd are
 names_are (w ∷ ws) [] are = absurd are
@@ -174,17 +174,17 @@ names_are (w ∷ ws) (a ∷ attributes) are = rw (are.0.name, names_are ws attri
 -- ---- all of it
 
 pub distinct_again : (ws : List Written) (attributes : List Attribute) → AllByRecursion HasTexts ws → AllZip IsAttribute ws attributes → HaveDistinctNames attributes
-    → distinct_attributes_of (map setting ws) ≡ Some attributes
+    → distinct_attributes_of (map raw_attribute ws) ≡ Some attributes
 unfolding distinct_attributes_of
 distinct_again ws attributes texts are distinct =
-    let new : are_new [] (map setting_name (map setting ws)) ≡ true = ap (are_new []) (names_are ws attributes are) ∙ new_again [] attributes distinct (none_seen attributes) in
+    let new : are_new [] (map raw_attribute_name (map raw_attribute ws)) ≡ true = ap (are_new []) (names_are ws attributes are) ∙ new_again [] attributes distinct (none_seen attributes) in
     rw new (attributes_again ws attributes texts are)
 
-pub distinct_found : (ws : List Written) (attributes : List Attribute) → distinct_attributes_of (map setting ws) ≡ Some attributes
+pub distinct_found : (ws : List Written) (attributes : List Attribute) → distinct_attributes_of (map raw_attribute ws) ≡ Some attributes
     → AllZip IsAttribute ws attributes × HaveDistinctNames attributes
 unfolding distinct_attributes_of
 distinct_found ws attributes e =
-    let g = chosen (are_new [] (map setting_name (map setting ws))) (attributes_of (map setting ws)) attributes e in
+    let g = chosen (are_new [] (map raw_attribute_name (map raw_attribute ws))) (attributes_of (map raw_attribute ws)) attributes e in
     let are = attributes_found ws attributes g.1 in
     let new : are_new [] (map attribute_name attributes) ≡ true = ap (are_new []) (sym (names_are ws attributes are)) ∙ g.0 in
     (are, (new_found [] attributes new).0)

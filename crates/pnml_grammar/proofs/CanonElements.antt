@@ -1,4 +1,4 @@
--- Elements and labels of the canonical text: the tokens stand in their text. An element has a child in the
+-- Elements and labels of the canonical text: the tokens are in their text. An element has a child in the
 -- text just where it has one among the tokens, since no spelling is empty.
 use Rattle.std.proofs.Common.{◌≡◌, ℕ, ◌+◌, ◌≤◌, true, List, [], ◌∷◌, ◌++◌, length, length-append, refl, sym, ap, subst, arith, append_assoc}
 use Rattle.std.specs.Prelude.{codes}
@@ -8,20 +8,20 @@ use Rattle.pnml_grammar.specs.declared.token.Attribute.{Attribute}
 use Rattle.pnml_grammar.specs.declared.token.Token.{Token}
 use Rattle.pnml_grammar.specs.declared.token.Token.TheVariants as tokens
 use Rattle.pnml_grammar.specs.Characters.{Each, Without}
-use Rattle.pnml_grammar.specs.Values.{Resolves}
+use Rattle.pnml_grammar.specs.Values.{Denotes}
 use Rattle.pnml_grammar.specs.Tokens.{is_text_byte, TokenAt}
 use Rattle.pnml_grammar.specs.Canon.{escaped, start_tag, end_tag, element, label}
-use Rattle.pnml_grammar.proofs.PlaceLaws.{token_goes_on}
+use Rattle.pnml_grammar.proofs.OffsetLaws.{token_goes_on}
 use Rattle.pnml_grammar.proofs.EscapeLaws.{is_clean, escaped_clean, escaped_short, escaped_resolves, escaped_lines, escaped_legal, escaped_some}
 use Rattle.pnml_grammar.proofs.CanonTokens.{element_tokens, value_tokens, label_tokens}
-use Rattle.pnml_grammar.proofs.CanonPieces.{Follow, Writes, writes_join, IsPiece, piece_stands, IsWord, word, ArePlain, attributes_text, start_writes, empty_writes, end_writes}
+use Rattle.pnml_grammar.proofs.CanonPieces.{Follow, Writes, writes_join, IsPiece, piece_occurs, IsWord, word, ArePlain, attributes_text, start_writes, empty_writes, end_writes}
 
 -- ---- a token has bytes
 
 nothing_follows : (token : Token) (list : List Token) → Writes [] (token ∷ list) → ⊥
 nothing_follows token list writes =
     let w = writes [] in
-    let here : TokenAt [] 0 token (0 + length w.0) = record { inside = omega arith; spelling = w.0; rest = w.1; stands = w.2; end_is = refl } in
+    let here : TokenAt [] 0 token (0 + length w.0) = record { inside = omega arith; spelling = w.0; rest = w.1; occurs = w.2; end_is = refl } in
     omega (arith, token_goes_on [] 0 token (0 + length w.0) here, ap length w.2.parts, length-append w.0 w.1)
 
 -- ---- elements
@@ -49,14 +49,14 @@ text_bytes (b ∷ bs) each =
     let one : is_text_byte b ≡ true = grind (arith, nat_tests) in
     (one, text_bytes bs each.1)
 
-clean_behind : (before after : List ℕ) → Each is_clean (before ++ after) → Each is_clean after
-clean_behind [] after each = each
-clean_behind (b ∷ bs) after each = clean_behind bs after each.1
+clean_after : (before after : List ℕ) → Each is_clean (before ++ after) → Each is_clean after
+clean_after [] after each = each
+clean_after (b ∷ bs) after each = clean_after bs after each.1
 
 -- a clean text has no `>`
 no_section_end : (bytes : List ℕ) → Each is_clean bytes → Without (codes "]]>") bytes
 no_section_end bytes each before after e =
-    let found = clean_behind before (codes "]]>" ++ after) (subst (Each is_clean) e each) in
+    let found = clean_after before (codes "]]>" ++ after) (subst (Each is_clean) e each) in
     let greater : is_clean 62 ≡ true = found.1.1.0 in
     cc
 
@@ -66,7 +66,7 @@ characters_piece value some legal short = record {
     some = some;
     each = text_bytes (escaped value) (escaped_clean value);
     without = no_section_end (escaped value) (escaped_clean value);
-    means = subst (λ (t : List ℕ). Resolves t value) (sym (escaped_lines value)) (escaped_resolves value);
+    means = subst (λ (t : List ℕ). Denotes t value) (sym (escaped_lines value)) (escaped_resolves value);
   };
   legal = escaped_legal value legal;
   short = omega (arith, escaped_short value);
@@ -80,7 +80,7 @@ unfolding end_tag
 value_end value piece rest =
     let end = end_tag (codes "text") in
     subst (λ (t : List ℕ). Follow t (tokens.Characters value ∷ tokens.End (codes "text") ∷ []) rest) (sym (append_assoc (escaped value) end rest))
-    (escaped value, end ++ rest, piece_stands (tokens.Characters value) (escaped value) (end ++ rest) piece refl, end_writes (codes "text") text_word rest)
+    (escaped value, end ++ rest, piece_occurs (tokens.Characters value) (escaped value) (end ++ rest) piece refl, end_writes (codes "text") text_word rest)
 
 full : (name attributes text : List ℕ) → 1 ≤ length text → element name attributes text ≡ start_tag name attributes ++ (text ++ end_tag name)
 full name attributes [] some = absurd (omega arith)

@@ -1,5 +1,5 @@
 -- The items of the canonical text: the tokens of one lead the open net or page to the same with the item
--- behind those that it has.
+-- after those that it has.
 use Rattle.std.proofs.Common.{◌≡◌, ℕ, ◌+◌, ◌<◌, ◌≤◌, Bool, true, false, cond, List, [], ◌∷◌, ◌++◌, Option, Some, None, length, refl, sym, subst, arith}
 use Rattle.std.specs.Prelude.{◌==◌, ◌||◌, codes, unwrap_or}
 use Rattle.std.proofs.lemmas.Bool.{eqb-true}
@@ -48,7 +48,7 @@ IsHolder contexts.Net = Unit
 IsHolder contexts.Page = Unit
 IsHolder _ = ⊥
 
--- the element of an item may stand in a holder, and any number of them
+-- the element of an item may occur in a holder, and any number of them
 node_held : (element : ElementKind) → is_node_or_page element ≡ true → (is_name element || is_node_or_page element || is_skipped element) ≡ true
 node_held elements.Page is = refl
 node_held elements.Place is = refl
@@ -141,7 +141,7 @@ module _ (top : Frame) (under : List Frame) (counts : Counts) (holds : IsHolder 
   abbrev now : State
   now = record { top = top; under = under; counts = counts }
 
-  -- the same with an item behind the others
+  -- the same with an item after the others
   abbrev with_item : Item → State
   with_item item = record { top = receive (one_item item) top; under = under; counts = counts plus counts_of_kind (kind_of item) }
 
@@ -263,7 +263,7 @@ module _ (top : Frame) (under : List Frame) (counts : Counts) (holds : IsHolder 
   node_reads (RefTransition reference) node = ref_transition_reads reference
   node_reads (Arc arc) node = arc_reads arc
 
--- the end of a page, in what it stands in
+-- the end of a page, in what it is in
 pub page_closes : (page : PageNode) (items : List Item) (outer : Frame) (under : List Frame) (counts : Counts)
     → Leads (record { top = frame contexts.Page (codes "page") (id_of page.id ∷ []) (record (named page.name) { items = items }); under = outer ∷ under; counts = counts }) (tokens.End (codes "page") ∷ [])
     (record { top = receive (record nothing { items = Page page ∷ items ++ PageEnd ∷ [] }) outer; under = under; counts = counts })

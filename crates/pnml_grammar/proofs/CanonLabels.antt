@@ -188,7 +188,7 @@ weight_free : (own : List ℕ) (attributes : List Attribute) (name : Option (Lis
 unfolding element_named element_names element_kinds
 weight_free own attributes name under counts room = record { read = refl; named = refl; held = refl; first = refl; room = room; counted = refl }
 
--- a marking and a weight, behind the name
+-- a marking and a weight, after the name
 abbrev pub numbered : Bool → Option (List ℕ) → ℕ → Content
 numbered true name number = named name
 numbered false name number = with_number name number

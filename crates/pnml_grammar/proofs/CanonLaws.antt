@@ -1,10 +1,10 @@
--- The canonical text spells its document: its tokens stand in it, each with legal texts, and they are read as
+-- The canonical text spells its document: its tokens are in it, each with legal texts, and they are read as
 -- the document.
 use Rattle.std.proofs.Common.{ℕ, sym, ap, subst, List, [], ◌∷◌, length}
 use Rattle.std.specs.List.{AllByRecursion}
 use Rattle.net_values.specs.declared.document.Document.{Document}
 use Rattle.pnml_grammar.specs.declared.token.Token.{Token}
-use Rattle.pnml_grammar.specs.Tokens.{TokensTo, first_place}
+use Rattle.pnml_grammar.specs.Tokens.{TokensTo, first_offset}
 use Rattle.pnml_grammar.specs.LegalTexts.{HasLegalTexts}
 use Rattle.pnml_grammar.specs.Valued.{Valued}
 use Rattle.pnml_grammar.specs.Documents.{DocBytes}
@@ -16,7 +16,7 @@ use Rattle.pnml_grammar.proofs.CanonTokens.{canon_tokens}
 use Rattle.pnml_grammar.proofs.CanonSpelling.{canon_spelled}
 use Rattle.pnml_grammar.proofs.CanonReading.{canon_read}
 
--- the texts of the tokens that stand are legal
+-- the texts of the tokens that occur are legal
 tokens_are_legal : (bytes : List ℕ) (list : List Token) (k e : ℕ) → TokensTo bytes k list e → AllByRecursion HasLegalTexts list
 tokens_are_legal bytes [] k e to = tt
 tokens_are_legal bytes (token ∷ list) k e to = (token_is_legal bytes k token to.0 to.1, tokens_are_legal bytes list to.0 e to.2)
@@ -24,7 +24,7 @@ tokens_are_legal bytes (token ∷ list) k e to = (token_is_legal bytes k token t
 pub canon_is : (document : Document) → Valued document → DocBytes document (canon document)
 canon_is document valued =
     let spelled = canon_spelled document valued in
-    let legal = tokens_are_legal (canon document) (canon_tokens document) (first_place (canon document)) (length (canon document)) spelled in
+    let legal = tokens_are_legal (canon document) (canon_tokens document) (first_offset (canon document)) (length (canon document)) spelled in
     record {
       list = canon_tokens document;
       tokens_are = spelled;

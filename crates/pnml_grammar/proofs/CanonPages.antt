@@ -1,5 +1,5 @@
 -- All items of the canonical text, by induction on the flat items with the list of open pages as data: an open
--- page holds the items that have stood on it, and the whole is what the net has when each of them is closed.
+-- page holds the items that have occurred on it, and the whole is what the net has when each of them is closed.
 use Rattle.std.proofs.Common.{◌≡◌, ℕ, ◌+◌, ◌-◌, ◌≤◌, cond, List, [], ◌∷◌, ◌++◌, Option, length, refl, sym, ap, subst, ◌∙◌, arith, append_assoc, append-nil}
 use Rattle.std.specs.Prelude.{codes, count_by}
 use Rattle.std.specs.List.{AllByRecursion}
@@ -108,7 +108,7 @@ page_frame p = frame contexts.Page (codes "page") (id_of p.page.id ∷ []) (reco
 abbrev pub root_frame : Frame
 root_frame = frame contexts.Pnml (codes "pnml") (namespace_of ∷ []) nothing
 
--- what stands around a net
+-- what is around a net
 abbrev pub around : List Frame
 around = root_frame ∷ outermost ∷ []
 
@@ -169,7 +169,7 @@ module _ (id : List ℕ) (name : Option (List ℕ)) where
 
   -- ---- one item, and then the others
 
-  -- the items, with these pages open, and with each page closed behind them
+  -- the items, with these pages open, and with each page closed after them
   abbrev Claim : List Item → Type 0
   Claim more =
       (items : List Item) (ps : List OpenPage) (counts : Counts) → AllByRecursion HasValuesInRange more → PagesMatch (length ps) more → IsShallow (2 + length ps) more

@@ -1,4 +1,4 @@
--- The pieces of the canonical text: the tokens of each stand one behind the other, whatever follows. Values
+-- The pieces of the canonical text: the tokens of each occur one after the other, whatever follows. Values
 -- are escaped, so their bytes end no tag and no text, and a spelling is at most six times as long as what it
 -- is written for.
 use Rattle.std.proofs.Common.{◌≡◌, ℕ, ◌+◌, ◌*◌, ◌≤◌, Bool, true, false, List, [], ◌∷◌, ◌++◌, map, length, drop, length-append, refl, sym, ap, subst, ◌∙◌, arith, append_assoc, inl}
@@ -13,20 +13,20 @@ use Rattle.pnml_grammar.specs.declared.token.Token.{Token}
 use Rattle.pnml_grammar.specs.declared.token.Token.TheVariants as tokens
 use Rattle.pnml_grammar.specs.Characters.{Each}
 use Rattle.pnml_grammar.specs.Names.{IsName, is_name_start, is_name_byte}
-use Rattle.pnml_grammar.specs.Values.{Resolves}
+use Rattle.pnml_grammar.specs.Values.{Denotes}
 use Rattle.pnml_grammar.specs.Attributes.{Written, written, IsWritten, IsAttribute, HaveDistinctNames, is_value_byte}
 use Rattle.pnml_grammar.specs.Tags.{IsTag}
-use Rattle.pnml_grammar.specs.Tokens.{IsSpelling, MayFollow, Stands, TokensTo, spelling_limit}
+use Rattle.pnml_grammar.specs.Tokens.{IsSpelling, MayFollow, Occurs, TokensTo, spelling_limit}
 use Rattle.pnml_grammar.specs.Canon.{escaped, start_tag, end_tag, empty_tag}
 use Rattle.pnml_grammar.proofs.LegalLaws.{legal_join, legal_nothing}
 use Rattle.pnml_grammar.proofs.EscapeLaws.{is_printed, printed_text, is_clean, escaped_clean, escaped_short, escaped_resolves, escaped_spaced, escaped_legal}
 
--- ---- tokens one behind the other
+-- ---- tokens one after the other
 
--- the tokens stand one behind the other at the front of the bytes, and this is the rest
+-- the tokens occur one after the other at the front of the bytes, and this is the rest
 abbrev pub Follow : List ℕ → List Token → List ℕ → Type 0
 Follow bytes [] rest = bytes ≡ rest
-Follow bytes (token ∷ list) rest = (spelling next : List ℕ) × Stands bytes token spelling next × Follow next list rest
+Follow bytes (token ∷ list) rest = (spelling next : List ℕ) × Occurs bytes token spelling next × Follow next list rest
 
 -- so they do whatever follows
 abbrev pub Writes : List ℕ → List Token → Type 0
@@ -49,11 +49,11 @@ pub record IsPiece (token : Token) (text : List ℕ) : Type 0 where
   pub legal : IsLegalText text
   pub short : length text ≤ spelling_limit
 
-pub piece_stands : (token : Token) (text rest : List ℕ) → IsPiece token text → MayFollow token rest → Stands (text ++ rest) token text rest
-piece_stands token text rest piece follows = record { parts = refl; spells = piece.spells; legal = piece.legal; short = piece.short; follows = follows }
+pub piece_occurs : (token : Token) (text rest : List ℕ) → IsPiece token text → MayFollow token rest → Occurs (text ++ rest) token text rest
+piece_occurs token text rest piece follows = record { parts = refl; spells = piece.spells; legal = piece.legal; short = piece.short; follows = follows }
 
 pub writes_piece : (token : Token) (text : List ℕ) → IsPiece token text → ((rest : List ℕ) → MayFollow token rest) → Writes text (token ∷ [])
-writes_piece token text piece follows rest = (text, rest, piece_stands token text rest piece (follows rest), refl)
+writes_piece token text piece follows rest = (text, rest, piece_occurs token text rest piece (follows rest), refl)
 
 -- ---- from the whole text to offsets
 
@@ -63,13 +63,13 @@ follow_to (token ∷ list) bytes k inside all =
     let spelling = all.0 in
     let next = all.1 in
     let parts = all.2.parts in
-    let behind : drop (k + length spelling) bytes ≡ next =
+    let beyond : drop (k + length spelling) bytes ≡ next =
     sym (drop-drop (length spelling) k bytes) ∙ ap (drop (length spelling)) parts ∙ drop_at spelling next (length spelling) refl
     in
     let within : k + length spelling ≤ length bytes = omega (arith, length-drop k bytes, ap length parts, length-append spelling next) in (
       k + length spelling,
-      record { inside = inside; spelling = spelling; rest = next; stands = all.2; end_is = refl },
-      follow_to list bytes (k + length spelling) within (subst (λ (t : List ℕ). Follow t list []) (sym behind) all.3),
+      record { inside = inside; spelling = spelling; rest = next; occurs = all.2; end_is = refl },
+      follow_to list bytes (k + length spelling) within (subst (λ (t : List ℕ). Follow t list []) (sym beyond) all.3),
     )
 
 pub follow_whole : (bytes : List ℕ) (list : List Token) → Follow bytes list [] → TokensTo bytes 0 list (length bytes)
@@ -103,7 +103,7 @@ word (b ∷ bs) e =
 
 -- ---- attributes
 
--- an attribute is written behind one space, in double quotes
+-- an attribute is written after one space, in double quotes
 abbrev pub written_attribute : Attribute → Written
 written_attribute a = record { gap = codes " "; name = a.name; before = []; after = []; quote = 34; body = escaped a.value }
 
@@ -138,7 +138,7 @@ attribute_is_written a is = record {
 }
 
 attribute_is : (a : Attribute) → IsAttribute (written_attribute a) a
-attribute_is a = record { name = refl; value = subst (λ (t : List ℕ). Resolves t a.value) (sym (escaped_spaced a.value)) (escaped_resolves a.value) }
+attribute_is a = record { name = refl; value = subst (λ (t : List ℕ). Denotes t a.value) (sym (escaped_spaced a.value)) (escaped_resolves a.value) }
 
 attributes_are_written : (attributes : List Attribute) → AllByRecursion IsPlainAttribute attributes → AllByRecursion IsWritten (map written_attribute attributes)
 attributes_are_written [] each = tt

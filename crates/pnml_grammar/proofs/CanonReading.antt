@@ -12,7 +12,7 @@ use Rattle.pnml_grammar.specs.Elements.{element_names, element_kinds, element_na
 use Rattle.pnml_grammar.specs.Contents.{nothing}
 use Rattle.pnml_grammar.specs.Counts.{Counts, no_counts, ◌plus◌, IsWithin}
 use Rattle.pnml_grammar.specs.Valued.{Valued, IsWithinLimits, name_height}
-use Rattle.pnml_grammar.specs.Machine.{State, outermost, start, run, behind_declaration, finish, reached, read}
+use Rattle.pnml_grammar.specs.Machine.{State, outermost, start, run, after_declaration, finish, reached, read}
 use Rattle.pnml_grammar.proofs.CanonTokens.{id_of, type_of, namespace_of, name_tokens, items_tokens, net_tokens, canon_tokens}
 use Rattle.pnml_grammar.proofs.MachineRuns.{Leads, leads_on, leads_token, leads_element}
 use Rattle.pnml_grammar.proofs.CanonTags.{IsFree, inside, net_attributes, pnml_attributes, start_taken, empty_taken, opened_is}
@@ -79,44 +79,44 @@ root_opens =
     subst (λ state. Leads start (tokens.Start (codes "pnml") (namespace_of ∷ []) ∷ []) state) (opened_is outermost [] no_counts (codes "pnml") (namespace_of ∷ []) elements.Pnml root_free pnml_attributes)
     (leads_token start (tokens.Start (codes "pnml") (namespace_of ∷ [])) (start_taken outermost [] no_counts (codes "pnml") (namespace_of ∷ []) elements.Pnml root_free pnml_attributes))
 
--- what stands behind the root
-abbrev behind_root : NetTree → Counts → State
-behind_root net counts = record { top = frame contexts.Document [] [] (record nothing { nets = net ∷ [] }); under = []; counts = counts }
+-- what follows the root
+abbrev after_root : NetTree → Counts → State
+after_root net counts = record { top = frame contexts.Document [] [] (record nothing { nets = net ∷ [] }); under = []; counts = counts }
 
-root_closes : (net : NetTree) (counts : Counts) → Leads (with_net net counts) (tokens.End (codes "pnml") ∷ []) (behind_root net counts)
+root_closes : (net : NetTree) (counts : Counts) → Leads (with_net net counts) (tokens.End (codes "pnml") ∷ []) (after_root net counts)
 root_closes net counts = leads_token (with_net net counts) (tokens.End (codes "pnml")) refl
 
-line_feed_leads : (net : NetTree) (counts : Counts) → Leads (behind_root net counts) (tokens.Characters (10 ∷ []) ∷ []) (behind_root net counts)
-line_feed_leads net counts = leads_token (behind_root net counts) (tokens.Characters (10 ∷ [])) refl
+line_feed_leads : (net : NetTree) (counts : Counts) → Leads (after_root net counts) (tokens.Characters (10 ∷ []) ∷ []) (after_root net counts)
+line_feed_leads net counts = leads_token (after_root net counts) (tokens.Characters (10 ∷ [])) refl
 
 root_tokens : Document → List Token
 root_tokens document =
     tokens.Start (codes "pnml") (namespace_of ∷ []) ∷ [] ++ net_tokens document.net ++ tokens.End (codes "pnml") ∷ [] ++ tokens.Characters (10 ∷ []) ∷ []
 
-document_leads : (document : Document) → Valued document → Leads start (root_tokens document) (behind_root document.net (no_counts plus items_counts document.net.items))
+document_leads : (document : Document) → Valued document → Leads start (root_tokens document) (after_root document.net (no_counts plus items_counts document.net.items))
 unfolding root_tokens
 document_leads document valued =
     let net = document.net in
     let counts = no_counts plus items_counts net.items in
     let root = tokens.Start (codes "pnml") (namespace_of ∷ []) ∷ [] in
     let end = tokens.End (codes "pnml") ∷ [] in
-    leads_on start (behind_root net counts) (behind_root net counts) (root ++ net_tokens net ++ end) (tokens.Characters (10 ∷ []) ∷ [])
-    (leads_on start (with_net net counts) (behind_root net counts) (root ++ net_tokens net) end
+    leads_on start (after_root net counts) (after_root net counts) (root ++ net_tokens net ++ end) (tokens.Characters (10 ∷ []) ∷ [])
+    (leads_on start (with_net net counts) (after_root net counts) (root ++ net_tokens net) end
     (leads_on start root_state (with_net net counts) root (net_tokens net) root_opens (net_leads document valued))
     (root_closes net counts))
     (line_feed_leads net counts)
 
-read_made : (list tail : List Token) (state : State) (document : Document) → behind_declaration list ≡ tail → run start tail ≡ Some state → finish state ≡ Some document → read list ≡ Some document
+read_made : (list tail : List Token) (state : State) (document : Document) → after_declaration list ≡ tail → run start tail ≡ Some state → finish state ≡ Some document → read list ≡ Some document
 unfolding read reached
 read_made list tail state document e0 e1 e2 = rw (e0, e1) e2
 
-headed : (document : Document) → behind_declaration (canon_tokens document) ≡ root_tokens document
+headed : (document : Document) → after_declaration (canon_tokens document) ≡ root_tokens document
 unfolding canon_tokens root_tokens
 headed document = refl
 
 -- the tokens are read as the document
 pub canon_read : (document : Document) → Valued document → read (canon_tokens document) ≡ Some document
 canon_read document valued =
-    let state = behind_root document.net (no_counts plus items_counts document.net.items) in
+    let state = after_root document.net (no_counts plus items_counts document.net.items) in
     read_made (canon_tokens document) (root_tokens document) state document (headed document)
     (ap (run start) (sym (append-nil (root_tokens document))) ∙ (document_leads document valued).whatever []) refl

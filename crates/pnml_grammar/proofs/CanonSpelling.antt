@@ -1,5 +1,5 @@
--- The tokens of a valued document stand in its canonical text: item by item, then the net, and around it the
--- declaration, the root and the line feed behind it.
+-- The tokens of a valued document are in its canonical text: item by item, then the net, and around it the
+-- declaration, the root and the line feed after it.
 use Rattle.std.proofs.Common.{◌≡◌, ◌≢◌, ℕ, ◌<◌, ◌^◌, Bool, true, false, cond, List, [], ◌∷◌, ◌++◌, length, get_or, length-append, refl, sym, ap, subst, ◌∙◌, arith, append_assoc, append-nil, inl, inr, Option, Some, None}
 use Rattle.std.specs.Prelude.{◌==◌, codes, decimal}
 use Rattle.std.specs.List.{AllByRecursion}
@@ -14,8 +14,8 @@ use Rattle.pnml_grammar.specs.declared.token.Token.TheVariants as tokens
 use Rattle.pnml_grammar.specs.Characters.{Each, Without}
 use Rattle.pnml_grammar.specs.Attributes.{Written, written, IsWritten, is_value_byte}
 use Rattle.pnml_grammar.specs.Declarations.{IsDeclaration}
-use Rattle.pnml_grammar.specs.Tokens.{IsCharacters, TokensOf, first_place}
-use Rattle.pnml_grammar.specs.Values.Resolves.{nothing, byte}
+use Rattle.pnml_grammar.specs.Tokens.{IsCharacters, TokensOf, first_offset}
+use Rattle.pnml_grammar.specs.Values.Denotes.{nothing, byte}
 use Rattle.pnml_grammar.specs.Canon.{escaped, attribute, start_tag, end_tag, element, label, name_text, marking_text, weight_text, id_attribute, item_text, items_text, net_type, namespace, net_text, declaration, canon}
 use Rattle.pnml_grammar.specs.Valued.{Valued, IsNameIfAny, HasValuesInRange}
 use Rattle.pnml_grammar.proofs.EscapeLaws.{printed_text}
@@ -200,7 +200,7 @@ unfolding declaration
 declaration_writes =
     writes_piece tokens.Declaration declaration (record { spells = declaration_is; legal = printed_text declaration refl; short = omega arith }) (λ rest. tt)
 
--- a line feed alone is white space between markup
+-- a line feed only is white space between markup
 line_feed_is : IsCharacters (10 ∷ []) (10 ∷ [])
 line_feed_is = record { some = omega arith; each = (refl, tt); without = no_section_end; means = byte 10 [] [] (λ e. omega arith) nothing }
   where
@@ -229,7 +229,7 @@ document_writes document valued =
     (net_writes document.net valued.id valued.name valued.items)
     (end_writes (codes "pnml") root)
 
--- and the line feed behind it
+-- and the line feed after it
 then_line_feed : (text : List ℕ) (list : List Token) → Writes text list → Follow (text ++ 10 ∷ []) (list ++ tokens.Characters (10 ∷ []) ∷ []) []
 then_line_feed text list writes = follow_join list (tokens.Characters (10 ∷ []) ∷ []) (text ++ 10 ∷ []) (10 ∷ []) [] (writes (10 ∷ [])) line_feed_follows
 
@@ -240,7 +240,7 @@ document_follows document valued =
     (tokens.Declaration ∷ [] ++ tokens.Start (codes "pnml") (namespace_of ∷ []) ∷ [] ++ net_tokens document.net ++ tokens.End (codes "pnml") ∷ [])
     (document_writes document valued)
 
-no_mark : (document : Document) → first_place (canon document) ≡ 0
+no_mark : (document : Document) → first_offset (canon document) ≡ 0
 unfolding canon declaration
 no_mark document = refl
 

@@ -1,5 +1,5 @@
 -- The tags of the canonical text: no reason applies to one whose name is known, whose attributes are those of
--- its element, and that stands where it may and where there is room for it.
+-- its element, and that occurs where it may and where there is room for it.
 use Rattle.std.proofs.Common.{◌≡◌, ℕ, suc, ◌<◌, ◌≤◌, Bool, true, false, List, [], ◌∷◌, Some, None, length, get_or, refl, sym, ap, subst, ◌∙◌, arith, inl, inr}
 use Rattle.std.specs.Prelude.{◌==◌, ◌&&◌, not, nat_le, nat_lt, encode_utf8}
 use Rattle.std.specs.List.{AllByRecursion, list_all}
@@ -124,7 +124,7 @@ abbrev pub is_read : Context → Bool
 is_read contexts.Skipped = false
 is_read _ = true
 
--- a tag that may stand in the innermost open element
+-- a tag that may occur in the innermost open element
 pub record IsFree (top : Frame) (under : List Frame) (counts : Counts) (name : List ℕ) (element : ElementKind) : Type 0 where
   pub read : is_read top.context ≡ true
   pub named : element_named name ≡ Some element

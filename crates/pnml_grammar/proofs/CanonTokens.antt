@@ -78,7 +78,7 @@ unfoldable pub net_tokens : NetTree → List Token
 net_tokens net =
     element_tokens (codes "net") (id_of net.id ∷ type_of ∷ []) (name_tokens net.name ++ items_tokens net.items)
 
--- the line feed behind the root is a text of its own
+-- the line feed after the root is a text of its own
 unfoldable pub canon_tokens : Document → List Token
 canon_tokens document =
     tokens.Declaration ∷ [] ++ tokens.Start (codes "pnml") (namespace_of ∷ []) ∷ [] ++ net_tokens document.net

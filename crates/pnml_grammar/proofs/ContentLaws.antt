@@ -1,5 +1,5 @@
--- What children give, one behind the other, and how many elements they count: both are associative, with an
--- empty one on either side. Whether an element has few of each is a matter of lengths alone.
+-- What children give, one after the other, and how many elements they count: both are associative, with an
+-- empty one on either side. Whether an element has few of each is a matter of lengths only.
 use Rattle.std.proofs.Common.{◌≡◌, ◌+◌, ◌≤◌, append_assoc, append-nil, length, length-append, arith, add_assoc, add-zero, zero-add}
 use Rattle.pnml_grammar.specs.Contents.{Content, nothing, ◌then◌}
 use Rattle.pnml_grammar.specs.Counts.{Counts, no_counts, ◌plus◌, IsWithin}

@@ -11,34 +11,34 @@ use Rattle.pnml_grammar.specs.declared.element.Context.TheVariants as contexts
 use Rattle.pnml_grammar.specs.declared.token.Token.{Token}
 use Rattle.pnml_grammar.specs.declared.token.Token.TheVariants as tokens
 use Rattle.pnml_grammar.specs.declared.token.Attribute.{Attribute}
-use Rattle.pnml_grammar.specs.Elements.{element_named, context_if_any, may_hold, may_stand_as}
+use Rattle.pnml_grammar.specs.Elements.{element_named, context_if_any, may_hold, may_occur_as}
 use Rattle.pnml_grammar.specs.Trees.{Node, element, empty_element, comment, instruction, cdata, characters, Nodes, none, ◌and◌, nodes_tokens, nodes_height}
 use Rattle.pnml_grammar.specs.Contents.{Content, nothing, ◌then◌, gives, node_content, nodes_content}
 use Rattle.pnml_grammar.specs.Counts.{nodes_counts}
 use Rattle.pnml_grammar.specs.Documents.{depth_limit, HasFew, IsChild, EachChild, opening, Spells, SpellOneDocument}
-use Rattle.pnml_grammar.specs.Tokens.{first_place}
+use Rattle.pnml_grammar.specs.Tokens.{first_offset}
 use Rattle.pnml_grammar.specs.LegalTexts.{HasLegalTexts}
-use Rattle.pnml_grammar.specs.Machine.{State, start, run, next, behind_declaration, the_one, finish, reached, read}
-use Rattle.pnml_grammar.specs.FirstFault.{Opened, Spot, IsBehind, Begins, opened_tokens, state_of}
+use Rattle.pnml_grammar.specs.Machine.{State, start, run, next, after_declaration, the_one, finish, reached, read}
+use Rattle.pnml_grammar.specs.FirstFault.{Opened, Spot, IsAfter, Begins, opened_tokens, state_of}
 use Rattle.pnml_grammar.proofs.RunLaws.{bind_some, some_is}
-use Rattle.pnml_grammar.proofs.PlaceLaws.{one_list}
+use Rattle.pnml_grammar.proofs.OffsetLaws.{one_list}
 use Rattle.pnml_grammar.proofs.EachLaws.{each_append, each_back}
 use Rattle.pnml_grammar.proofs.ValuedLaws.{valued_of}
-use Rattle.pnml_grammar.proofs.Spots.{IsSound, step_found, reached_stands}
+use Rattle.pnml_grammar.proofs.Spots.{IsSound, step_found, reached_occurs}
 use Rattle.pnml_grammar.proofs.Endings.{spot_at, spot_ends}
 use Rattle.pnml_grammar.proofs.ReadingTrees.{with_more, HasRoom, nodes_run, step_on}
 
 -- ---- around the root
 
--- what stands around the root gives nets alone
+-- what is around the root gives nets only
 abbrev only_nets : Content → Content
 only_nets content = record nothing { nets = content.nets }
 
-root_gives : (kind : Option ElementKind) (attributes : List Attribute) (content : Content) → IsTrue (may_stand_as contexts.Document kind attributes)
+root_gives : (kind : Option ElementKind) (attributes : List Attribute) (content : Content) → IsTrue (may_occur_as contexts.Document kind attributes)
     → gives (context_if_any contexts.Document kind) attributes content ≡ only_nets (gives (context_if_any contexts.Document kind) attributes content)
-root_gives None attributes content stands = refl
-root_gives (Some elements.Pnml) attributes content stands = refl
-root_gives (Some kind) attributes content stands = absurd (true≢false (sym (and_parts _ (may_hold contexts.Document kind) stands).1))
+root_gives None attributes content occurs = refl
+root_gives (Some elements.Pnml) attributes content occurs = refl
+root_gives (Some kind) attributes content occurs = absurd (true≢false (sym (and_parts _ (may_hold contexts.Document kind) occurs).1))
 
 outside_gives_one : (node : Node) → IsChild contexts.Document node → node_content contexts.Document node ≡ only_nets (node_content contexts.Document node)
 outside_gives_one (element name attributes children) child = root_gives (element_named name) attributes _ child.0
@@ -64,7 +64,7 @@ few_nets nets net one = let long : length nets ≡ 1 = ap length one in record {
 
 -- ---- the declaration in front
 
-no_declaration : (nodes : Nodes) → behind_declaration (nodes_tokens nodes) ≡ nodes_tokens nodes
+no_declaration : (nodes : Nodes) → after_declaration (nodes_tokens nodes) ≡ nodes_tokens nodes
 no_declaration none = refl
 no_declaration ((element name attributes children) and nodes) = refl
 no_declaration ((empty_element name attributes) and nodes) = refl
@@ -73,13 +73,13 @@ no_declaration (instruction and nodes) = refl
 no_declaration ((cdata value) and nodes) = refl
 no_declaration ((characters value) and nodes) = refl
 
-behind_opening : (declared : Bool) (nodes : Nodes) → behind_declaration (opening declared ++ nodes_tokens nodes) ≡ nodes_tokens nodes
-behind_opening true nodes = refl
-behind_opening false nodes = no_declaration nodes
+after_opening : (declared : Bool) (nodes : Nodes) → after_declaration (opening declared ++ nodes_tokens nodes) ≡ nodes_tokens nodes
+after_opening true nodes = refl
+after_opening false nodes = no_declaration nodes
 
 -- ---- documents are read
 
-read_made : (list rest : List Token) (state : State) (document : Document) → behind_declaration list ≡ rest → run start rest ≡ Some state → finish state ≡ Some document → read list ≡ Some document
+read_made : (list rest : List Token) (state : State) (document : Document) → after_declaration list ≡ rest → run start rest ≡ Some state → finish state ≡ Some document → read list ≡ Some document
 unfolding read reached
 read_made list rest state document front ran ends = rw (front, ran) ends
 
@@ -94,14 +94,14 @@ spells_read document list spells =
       counted = omega (arith, spells.counted);
     } in
     read_made list (nodes_tokens nodes) (with_more start content (nodes_counts contexts.Document nodes)) document
-    (ap behind_declaration spells.list_is ∙ behind_opening spells.declared nodes)
+    (ap after_declaration spells.list_is ∙ after_opening spells.declared nodes)
     (ap (run start) (sym (append-nil (nodes_tokens nodes))) ∙ nodes_run nodes start [] spells.each room)
     (ap the_one spells.one)
 
--- ---- what is read stands for open elements
+-- ---- what is read represents open elements
 
-pub reached_spot : (list : List Token) (state : State) → reached list ≡ Some state → (spot : Spot) × IsBehind spot list × (state_of spot ≡ state)
-reached_spot list state e = let stands = reached_stands list state e in (stands.spot, stands.behind, stands.leads)
+pub reached_spot : (list : List Token) (state : State) → reached list ≡ Some state → (spot : Spot) × IsAfter spot list × (state_of spot ≡ state)
+reached_spot list state e = let occurs = reached_occurs list state e in (occurs.spot, occurs.beyond, occurs.leads)
 
 -- ---- what is read to the end is a document
 
@@ -137,9 +137,9 @@ pub read_spells : (document : Document) (list : List Token) → AllByRecursion H
 unfolding read
 read_spells document list legal e =
     let found = bind_some (reached list) finish document e in
-    let stands = reached_stands list found.0 found.1 in
-    let spot = stands.spot in
-    closed_spells spot.declared spot.opened spot.outside list document stands.behind stands.sound legal (ap finish stands.leads ∙ found.2)
+    let occurs = reached_occurs list found.0 found.1 in
+    let spot = occurs.spot in
+    closed_spells spot.declared spot.opened spot.outside list document occurs.beyond occurs.sound legal (ap finish occurs.leads ∙ found.2)
 
 -- ---- what begins a document is read so far, and what is read so far begins one
 
@@ -168,15 +168,15 @@ ended_tokens list front opened rest nodes e f =
 
 pub reached_begins : (list : List Token) (state : State) → AllByRecursion HasLegalTexts list → reached list ≡ Some state → Begins list
 reached_begins list state legal e =
-    let stands = reached_stands list state e in
-    let spot = stands.spot in
-    let whole = spot_ends spot stands.sound in
+    let occurs = reached_occurs list state e in
+    let spot = occurs.spot in
+    let whole = spot_ends spot occurs.sound in
     let ends = whole.ends in
     record {
       rest = ends.rest;
       document = record { net = whole.net };
       spells = spells_from spot.declared ends.nodes (list ++ ends.rest) whole.net
-          (ended_tokens list (opening spot.declared) (opened_tokens spot.opened spot.outside) ends.rest (nodes_tokens ends.nodes) stands.behind ends.tokens_are)
+          (ended_tokens list (opening spot.declared) (opened_tokens spot.opened spot.outside) ends.rest (nodes_tokens ends.nodes) occurs.beyond ends.tokens_are)
           ends.sound (each_append HasLegalTexts list ends.rest legal ends.legal) whole.one;
     }
 
@@ -184,5 +184,5 @@ reached_begins list state legal e =
 
 pub spells_one : SpellOneDocument
 spells_one bytes document other is also =
-    let lists = one_list bytes is.list also.list (first_place bytes) (length bytes) is.tokens_are also.tokens_are in
+    let lists = one_list bytes is.list also.list (first_offset bytes) (length bytes) is.tokens_are also.tokens_are in
     some_is document other (sym (spells_read document is.list is.spells) ∙ (ap read lists ∙ spells_read other also.list also.spells))

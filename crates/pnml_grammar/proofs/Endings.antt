@@ -1,5 +1,5 @@
 -- Each document that has begun can be ended: the open elements are closed, innermost first, each with what it
--- may lack, and where no root has stood, one with an empty net stands.
+-- may lack, and where no root has occurred, one with an empty net occurs.
 use Rattle.std.proofs.Common.{◌≡◌, ◌+◌, ◌≤◌, inl, inr, refl, sym, ap, subst, ◌∙◌, List, [], ◌∷◌, ◌++◌, append_assoc, append-nil, length, Bool, true, IsTrue, arith, true≢false}
 use Rattle.std.specs.List.{AllByRecursion}
 use Rattle.std.proofs.lemmas.Bool.{cases_Bool}
@@ -36,7 +36,7 @@ missing_shallow spot inner sound =
     let low_enough = sound.hold.2.shallow in
     elim (missing_low (state_of (spot_in spot inner)).top.context) [
       | inl root ↦
-          let first = none_around spot.opened spot.outside (root_is_outermost around inner.name inner.attributes sound.hold.1.stands root) in
+          let first = none_around spot.opened spot.outside (root_is_outermost around inner.name inner.attributes sound.hold.1.occurs root) in
           let height : node_height (missing (state_of (spot_in spot inner)).top.context) ≡ 1 = ap (λ c. node_height (missing c)) root in
           omega (arith, first, height)
       | inr flat ↦ omega (arith, flat, low_enough)
@@ -122,7 +122,7 @@ close spot inner sound =
 abbrev pub spot_at : Bool → List Opened → Nodes → Spot
 spot_at declared opened outside = record { declared = declared; opened = opened; outside = outside }
 
--- the tokens and more are those of what stands around the root
+-- the tokens and more are those of what is around the root
 pub record Ends (declared : Bool) (list : List Token) : Type 0 where
   pub nodes : Nodes
   pub rest : List Token
@@ -130,8 +130,8 @@ pub record Ends (declared : Bool) (list : List Token) : Type 0 where
   pub sound : IsSound (spot_at declared [] nodes)
   pub legal : AllByRecursion HasLegalTexts rest
 
-ends_behind : (declared : Bool) (list more next : List Token) → next ≡ list ++ more → AllByRecursion HasLegalTexts more → Ends declared next → Ends declared list
-ends_behind declared list more next e legal ends = record {
+ends_after : (declared : Bool) (list more next : List Token) → next ≡ list ++ more → AllByRecursion HasLegalTexts more → Ends declared next → Ends declared list
+ends_after declared list more next e legal ends = record {
   nodes = ends.nodes;
   rest = more ++ ends.rest;
   tokens_are = ends.tokens_are ∙ (ap (λ (t : List Token). t ++ ends.rest) e ∙ append_assoc list more ends.rest);
@@ -147,21 +147,21 @@ close_all : (outer : List Opened) (inner : Opened) (declared : Bool) (outside : 
     → Ends declared (opened_tokens (inner ∷ outer) outside)
 close_all [] inner declared outside sound =
     let closes = close (spot_at declared [] outside) inner sound in
-    ends_behind declared (opened_tokens (inner ∷ []) outside) closes.rest (nodes_tokens (with_last outside closes.node)) closes.tokens_are closes.legal
+    ends_after declared (opened_tokens (inner ∷ []) outside) closes.rest (nodes_tokens (with_last outside closes.node)) closes.tokens_are closes.legal
     (ends_here declared (with_last outside closes.node) closes.sound)
 close_all (next ∷ outer) inner declared outside sound =
     let closes = close (spot_at declared (next ∷ outer) outside) inner sound in
     let wider : Opened = record next { children = with_last next.children closes.node } in
-    ends_behind declared (opened_tokens (inner ∷ next ∷ outer) outside) closes.rest (opened_tokens (wider ∷ outer) outside) closes.tokens_are closes.legal
+    ends_after declared (opened_tokens (inner ∷ next ∷ outer) outside) closes.rest (opened_tokens (wider ∷ outer) outside) closes.tokens_are closes.legal
     (close_all outer wider declared outside closes.sound)
 
 close_any : (declared : Bool) (opened : List Opened) (outside : Nodes) → IsSound (spot_at declared opened outside) → Ends declared (opened_tokens opened outside)
 close_any declared [] outside sound = ends_here declared outside sound
 close_any declared (inner ∷ outer) outside sound = close_all outer inner declared outside sound
 
--- ---- one root stands
+-- ---- one root occurs
 
--- the tokens and more are those of what stands around the root, and one net has stood
+-- the tokens and more are those of what is around the root, and one net has occurred
 pub record EndsWithNet (declared : Bool) (list : List Token) : Type 0 where
   pub ends : Ends declared list
   pub net : NetTree

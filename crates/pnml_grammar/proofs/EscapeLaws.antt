@@ -1,6 +1,6 @@
 -- Escaping resolves back: what is written for a value has no tab, line end, `<`, `>` or quote, so nothing but
 -- its references is resolved, and each is the byte that it was written for. Bytes below 128 are looked at one
--- by one; the others stand as they are, and they make up the characters above U+007F.
+-- by one; the others occur as they are, and they make up the characters above U+007F.
 use Rattle.std.proofs.Common.{◌≡◌, ℕ, ◌*◌, zero, suc, ◌<◌, ◌≤◌, Bool, true, false, cond, List, [], ◌∷◌, ◌++◌, map, length, get_or, length-append, refl, sym, ap, subst, ◌∙◌, arith, append-nil, inl, inr}
 use Rattle.std.specs.Prelude.{◌==◌, ◌&&◌, ◌||◌, not, nat_le, codes, encode_utf8}
 use Rattle.std.specs.List.{AllByRecursion, list_all}
@@ -15,8 +15,8 @@ use Rattle.pnml_grammar.specs.Canon.{escape, escaped}
 use Rattle.pnml_grammar.specs.References.{IsNumber}
 use Rattle.pnml_grammar.specs.References.IsReference.{less_than, greater_than, ampersand, quotation, decimal}
 use Rattle.pnml_grammar.specs.Resolving.{is_legal_character}
-use Rattle.pnml_grammar.specs.Values.{lines_ended, spaced, Resolves}
-use Rattle.pnml_grammar.specs.Values.Resolves.{nothing, byte, reference}
+use Rattle.pnml_grammar.specs.Values.{lines_ended, spaced, Denotes}
+use Rattle.pnml_grammar.specs.Values.Denotes.{nothing, byte, reference}
 use Rattle.pnml_grammar.proofs.RunLaws.{some_is}
 use Rattle.pnml_grammar.proofs.ReferenceLaws.{legal_is}
 use Rattle.pnml_grammar.proofs.ValueLaws.{resolves_is}
@@ -66,7 +66,7 @@ fine_at (suc n) e b h =
 all_fine : fine_below 128 ≡ true
 all_fine = refl
 
--- a byte that stands as it is
+-- a byte that occurs as it is
 pub escape_plain : (b : ℕ) → (not (b == 38) && is_clean b) ≡ true → escape b ≡ b ∷ []
 escape_plain b plain =
     let e0 : (b == 38) ≡ false = grind (arith, nat_tests) in
@@ -116,8 +116,8 @@ escaped_short (b ∷ bs) =
 
 -- ---- resolving
 
-number : (digits : List ℕ) (character : ℕ) → IsNumber 10 digits character → (bytes value : List ℕ) → Resolves bytes value
-    → Resolves (38 ∷ ((35 ∷ digits) ++ 59 ∷ bytes)) (encode_utf8 character ++ value)
+number : (digits : List ℕ) (character : ℕ) → IsNumber 10 digits character → (bytes value : List ℕ) → Denotes bytes value
+    → Denotes (38 ∷ ((35 ∷ digits) ++ 59 ∷ bytes)) (encode_utf8 character ++ value)
 number digits character is bytes value rest = reference (35 ∷ digits) character bytes value (decimal digits character is) rest
 
 tab : IsNumber 10 (codes "9") 9
@@ -133,12 +133,12 @@ choose : (P : List ℕ → Type 0) (b : Bool) (x y : List ℕ) → (b ≡ true �
 choose P true x y passes fails = passes refl
 choose P false x y passes fails = fails refl
 
-module _ (bytes value : List ℕ) (rest : Resolves bytes value) (b : ℕ) where
+module _ (bytes value : List ℕ) (rest : Denotes bytes value) (b : ℕ) where
   abbrev Back : List ℕ → Type 0
-  Back text = Resolves (text ++ bytes) (b ∷ value)
+  Back text = Denotes (text ++ bytes) (b ∷ value)
 
-  same : (c : ℕ) (text : List ℕ) → Resolves (text ++ bytes) (c ∷ value) → (b == c) ≡ true → Back text
-  same c text back e = subst (λ (x : ℕ). Resolves (text ++ bytes) (x ∷ value)) (sym (eqb-true b c e)) back
+  same : (c : ℕ) (text : List ℕ) → Denotes (text ++ bytes) (c ∷ value) → (b == c) ≡ true → Back text
+  same c text back e = subst (λ (x : ℕ). Denotes (text ++ bytes) (x ∷ value)) (sym (eqb-true b c e)) back
 
   escape_back : Back (escape b)
   unfolding lib.Utf8.encode
@@ -152,12 +152,12 @@ module _ (bytes value : List ℕ) (rest : Resolves bytes value) (b : ℕ) where
       choose Back (b == 13) _ _ (same 13 (codes "&#13;") (number (codes "13") 13 carriage_return bytes value rest)) (λ _.
       byte b bytes value (eqb-false b 38 plain) rest)))))))
 
-pub escaped_resolves : (value : List ℕ) → Resolves (escaped value) value
+pub escaped_resolves : (value : List ℕ) → Denotes (escaped value) value
 unfolding escaped
 escaped_resolves [] = nothing
 escaped_resolves (b ∷ bs) = escape_back (escaped bs) bs (escaped_resolves bs) b
 
-some_resolves : (text value : List ℕ) → Resolves text value → 1 ≤ length value → 1 ≤ length text
+some_resolves : (text value : List ℕ) → Denotes text value → 1 ≤ length value → 1 ≤ length text
 some_resolves [] value is some = omega (arith, some, ap length (some_is [] value (resolves_is [] value is)))
 some_resolves (b ∷ bs) value is some = omega arith
 

@@ -1,6 +1,6 @@
--- What an element may give: one net, name, number or text to the element around it, and none behind another.
+-- What an element may give: one net, name, number or text to the element around it, and none after another.
 -- Whether it is the first is a test on the tag, and tells whether there are few in the end. By cases on what
--- the element is and where it stands.
+-- the element is and where it occurs.
 use Rattle.std.proofs.Common.{◌≡◌, ℕ, ◌+◌, ◌≤◌, refl, sym, subst, List, [], ◌∷◌, length, Option, Some, None, Bool, true, false, IsTrue, nat_le, arith, true≢false}
 use Rattle.std.proofs.lemmas.Bool.{and_parts, leb-true, le-leb}
 use Rattle.pnml_grammar.specs.declared.element.ElementKind.{ElementKind}
@@ -8,7 +8,7 @@ use Rattle.pnml_grammar.specs.declared.element.ElementKind.TheVariants as elemen
 use Rattle.pnml_grammar.specs.declared.element.Context.{Context}
 use Rattle.pnml_grammar.specs.declared.element.Context.TheVariants as contexts
 use Rattle.pnml_grammar.specs.declared.token.Attribute.{Attribute}
-use Rattle.pnml_grammar.specs.Elements.{element_named, context_in, context_if_any, context_of_kind, may_hold, may_stand, may_stand_as}
+use Rattle.pnml_grammar.specs.Elements.{element_named, context_in, context_if_any, context_of_kind, may_hold, may_occur, may_occur_as}
 use Rattle.pnml_grammar.specs.Contents.{Content, nothing, ◌then◌, gives}
 use Rattle.pnml_grammar.specs.Documents.{HasFew, is_complete}
 use Rattle.pnml_grammar.specs.Machine.{has_some, is_second}
@@ -34,7 +34,7 @@ abbrev pub is_inside : Context → Bool
 is_inside contexts.Skipped = false
 is_inside _ = true
 
--- the element may not stand behind what the children before have given; in skipped parts every one may
+-- the element may not follow what the children before have given; in skipped parts every one may
 abbrev pub second_of : Context → Content → Option ElementKind → Bool
 second_of context content None = false
 second_of context content (Some element) = is_second context content element
@@ -94,24 +94,24 @@ few_more element context content inner attributes few own e = few_from content (
 -- ---- an element in any context
 
 is_first_of : (context : Context) (element : Option ElementKind) (content inner : Content) (attributes : List Attribute) → is_inside context ≡ true
-    → IsTrue (may_stand_as context element attributes) → HasFew (content then gives (context_if_any context element) attributes inner) → IsTrue (is_complete (context_if_any context element) inner)
+    → IsTrue (may_occur_as context element attributes) → HasFew (content then gives (context_if_any context element) attributes inner) → IsTrue (is_complete (context_if_any context element) inner)
     → second_of context content element ≡ false
-is_first_of context None content inner attributes inside stands few complete = refl
-is_first_of context (Some element) content inner attributes inside stands few complete =
-    second_none element context content inner attributes inside (and_parts _ (may_hold context element) stands).1 few complete
+is_first_of context None content inner attributes inside occurs few complete = refl
+is_first_of context (Some element) content inner attributes inside occurs few complete =
+    second_none element context content inner attributes inside (and_parts _ (may_hold context element) occurs).1 few complete
 
-few_behind_of : (context : Context) (element : Option ElementKind) (content inner : Content) (attributes : List Attribute) → HasFew content → HasFew inner → second_of context content element ≡ false
+few_after_of : (context : Context) (element : Option ElementKind) (content inner : Content) (attributes : List Attribute) → HasFew content → HasFew inner → second_of context content element ≡ false
     → HasFew (content then gives (context_if_any context element) attributes inner)
-few_behind_of context None content inner attributes few own first = few_same content few
-few_behind_of context (Some element) content inner attributes few own first = few_more element context content inner attributes few own first
+few_after_of context None content inner attributes few own first = few_same content few
+few_after_of context (Some element) content inner attributes few own first = few_more element context content inner attributes few own first
 
-pub is_first : (context : Context) (content inner : Content) (name : List ℕ) (attributes : List Attribute) → IsTrue (may_stand context name attributes)
+pub is_first : (context : Context) (content inner : Content) (name : List ℕ) (attributes : List Attribute) → IsTrue (may_occur context name attributes)
     → HasFew (content then gives (context_in context (element_named name)) attributes inner) → IsTrue (is_complete (context_in context (element_named name)) inner)
     → second_in context content (element_named name) ≡ false
-is_first contexts.Skipped content inner name attributes stands few complete = refl
-is_first context content inner name attributes stands few complete = is_first_of context (element_named name) content inner attributes refl stands few complete
+is_first contexts.Skipped content inner name attributes occurs few complete = refl
+is_first context content inner name attributes occurs few complete = is_first_of context (element_named name) content inner attributes refl occurs few complete
 
-pub few_behind : (context : Context) (content inner : Content) (name : List ℕ) (attributes : List Attribute) → HasFew content → HasFew inner
+pub few_after : (context : Context) (content inner : Content) (name : List ℕ) (attributes : List Attribute) → HasFew content → HasFew inner
     → second_in context content (element_named name) ≡ false → HasFew (content then gives (context_in context (element_named name)) attributes inner)
-few_behind contexts.Skipped content inner name attributes few own first = few_same content few
-few_behind context content inner name attributes few own first = few_behind_of context (element_named name) content inner attributes few own first
+few_after contexts.Skipped content inner name attributes few own first = few_same content few
+few_after context content inner name attributes few own first = few_after_of context (element_named name) content inner attributes few own first

@@ -1,4 +1,4 @@
--- One more node behind others: what it adds to their tokens, to what they give and count, and to their height;
+-- One more node after others: what it adds to their tokens, to what they give and count, and to their height;
 -- and the same for the innermost of the elements that are open.
 use Rattle.std.proofs.Common.{◌≡◌, ℕ, ◌+◌, ◌≤◌, sym, ap, ◌∙◌, List, [], ◌∷◌, ◌++◌, append_assoc, append-nil, arith}
 use Rattle.pnml_grammar.specs.declared.element.Context.{Context}
@@ -15,7 +15,7 @@ use Rattle.pnml_grammar.specs.FirstFault.{Opened, Spot, opened_tokens, frame_of,
 use Rattle.pnml_grammar.proofs.ContentLaws.{then_nothing, then_assoc, plus_nothing, nothing_plus, plus_assoc}
 use Rattle.pnml_grammar.proofs.ReadingTrees.{with_more}
 
--- ---- behind nodes
+-- ---- after nodes
 
 abbrev pub with_last : Nodes → Node → Nodes
 with_last none node = node and none
@@ -69,18 +69,18 @@ with_tokens (inner ∷ outer) outside node =
 regroup : (a b c d : Counts) → (a plus (b plus (c plus d))) ≡ ((a plus (b plus c)) plus d)
 regroup a b c d = ap (λ x. a plus x) (sym (plus_assoc b c d)) ∙ sym (plus_assoc a (b plus c) d)
 
-abbrev state_behind : List Opened → Nodes → State
-state_behind opened outside =
+abbrev state_after : List Opened → Nodes → State
+state_after opened outside =
     record { top = frame_of opened outside; under = frames_around opened outside; counts = opened_counts opened outside }
 
-with_state_behind : (opened : List Opened) (outside : Nodes) (node : Node) → state_behind (opened_with opened node) (outside_with opened outside node)
-    ≡ with_more (state_behind opened outside) (node_content (frame_of opened outside).context node) (node_counts (frame_of opened outside).context node)
-with_state_behind [] outside node = λ i. record {
+with_state_after : (opened : List Opened) (outside : Nodes) (node : Node) → state_after (opened_with opened node) (outside_with opened outside node)
+    ≡ with_more (state_after opened outside) (node_content (frame_of opened outside).context node) (node_counts (frame_of opened outside).context node)
+with_state_after [] outside node = λ i. record {
   top = record { context = contexts.Document; name = []; attributes = []; content = last_content contexts.Document outside node i };
   under = [];
   counts = last_counts contexts.Document outside node i;
 }
-with_state_behind (inner ∷ outer) outside node =
+with_state_after (inner ∷ outer) outside node =
     let around = (frame_of outer outside).context in
     let context = context_in around (element_named inner.name) in
     let counts = ap (λ x. opened_counts outer outside plus (tag_counts around inner.name plus x)) (last_counts context inner.children node)
@@ -94,4 +94,4 @@ with_state_behind (inner ∷ outer) outside node =
 
 pub with_state : (spot : Spot) (node : Node)
     → state_of (spot_with spot node) ≡ with_more (state_of spot) (node_content (state_of spot).top.context node) (node_counts (state_of spot).top.context node)
-with_state spot node = with_state_behind spot.opened spot.outside node
+with_state spot node = with_state_after spot.opened spot.outside node

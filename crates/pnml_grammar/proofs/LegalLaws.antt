@@ -18,8 +18,8 @@ use Rattle.pnml_grammar.specs.declared.token.Token.TheVariants as tokens
 use Rattle.pnml_grammar.specs.Characters.{Each, is_space}
 use Rattle.pnml_grammar.specs.References.{IsReference}
 use Rattle.pnml_grammar.specs.References.IsReference.{less_than, greater_than, ampersand, apostrophe, quotation, decimal, hexadecimal}
-use Rattle.pnml_grammar.specs.Values.{lines_ended, lines_ended_behind, spaced, Resolves}
-use Rattle.pnml_grammar.specs.Values.Resolves.{nothing, byte, reference}
+use Rattle.pnml_grammar.specs.Values.{lines_ended, lines_ended_after, spaced, Denotes}
+use Rattle.pnml_grammar.specs.Values.Denotes.{nothing, byte, reference}
 use Rattle.pnml_grammar.specs.Attributes.{Written, written, IsWritten, IsAttribute}
 use Rattle.pnml_grammar.specs.Tags.{IsTag}
 use Rattle.pnml_grammar.specs.Tokens.{IsSpelling, IsCdata, TokenAt}
@@ -59,12 +59,12 @@ legal_join xs ys hx hy =
     ∙ list_all-append is_legal_character (chars xs) (chars ys)
     ∙ and_from (list_all is_legal_character (chars xs)) (list_all is_legal_character (chars ys)) (legal_characters xs hx) (legal_characters ys hy))
 
--- what is behind an ASCII byte
+-- what is after an ASCII byte
 ascii_scalar : (b : ℕ) → b < 128 → scalar b ≡ true
 ascii_scalar b ascii = grind (arith, nat_tests)
 
-legal_behind : (b : ℕ) (bs : List ℕ) → b < 128 → IsLegalText (b ∷ bs) → IsLegalText bs
-legal_behind b bs ascii h =
+legal_after : (b : ℕ) (bs : List ℕ) → b < 128 → IsLegalText (b ∷ bs) → IsLegalText bs
+legal_after b bs ascii h =
     let text = utf8_past b bs ascii (legal_utf8 (b ∷ bs) h) in
     let one : IsUtf8 (b ∷ []) = subst IsUtf8 (encode_ascii b ascii) (IsUtf8-encode b (ascii_scalar b ascii)) in
     let all : list_all is_legal_character (chars (b ∷ []) ++ chars bs) ≡ true =
@@ -94,15 +94,15 @@ reference_is_legal _ _ (hexadecimal digits c n) = n.legal
 longer : (front : List ℕ) (b : ℕ) (bytes : List ℕ) → front ++ b ∷ bytes ≡ (front ++ b ∷ []) ++ bytes
 longer front b bytes = sym (append_assoc front (b ∷ []) bytes)
 
-resolved_is_legal : (front bytes value : List ℕ) → Resolves bytes value → IsLegalText (front ++ bytes) → IsLegalText (front ++ value)
+resolved_is_legal : (front bytes value : List ℕ) → Denotes bytes value → IsLegalText (front ++ bytes) → IsLegalText (front ++ value)
 resolved_is_legal front _ _ nothing h = h
 resolved_is_legal front _ _ (byte b bytes value other rest) h =
     subst IsLegalText (sym (longer front b value)) (resolved_is_legal (front ++ b ∷ []) bytes value rest (subst IsLegalText (longer front b bytes) h))
 resolved_is_legal front _ _ (reference body c bytes value is rest) h =
     let whole = legal_split front (38 ∷ (body ++ 59 ∷ bytes)) (omega arith) h in
-    let inner = legal_split body (59 ∷ bytes) (omega arith) (legal_behind 38 (body ++ 59 ∷ bytes) (omega arith) whole.1) in
-    let behind = resolved_is_legal [] bytes value rest (legal_behind 59 bytes (omega arith) inner.1) in
-    legal_join front (encode_utf8 c ++ value) whole.0 (legal_join (encode_utf8 c) value (legal_one c (reference_is_legal body c is)) behind)
+    let inner = legal_split body (59 ∷ bytes) (omega arith) (legal_after 38 (body ++ 59 ∷ bytes) (omega arith) whole.1) in
+    let beyond = resolved_is_legal [] bytes value rest (legal_after 59 bytes (omega arith) inner.1) in
+    legal_join front (encode_utf8 c ++ value) whole.0 (legal_join (encode_utf8 c) value (legal_one c (reference_is_legal body c is)) beyond)
 
 -- ---- line ends and spaces
 
@@ -112,24 +112,24 @@ legal_feed = subst IsLegalText (encode_ascii 10 (omega arith)) (legal_one 10 (le
 legal_space : IsLegalText (32 ∷ [])
 legal_space = subst IsLegalText (encode_ascii 32 (omega arith)) (legal_one 32 (legal_found 32 refl))
 
--- an ASCII byte may be left out, and what is behind it changed
-changed_behind : (front : List ℕ) (b : ℕ) (bytes value : List ℕ) → b < 128 → IsLegalText (front ++ b ∷ bytes) → (IsLegalText bytes → IsLegalText value) → IsLegalText (front ++ value)
-changed_behind front b bytes value ascii h then =
+-- an ASCII byte may be left out, and what is after it changed
+changed_after : (front : List ℕ) (b : ℕ) (bytes value : List ℕ) → b < 128 → IsLegalText (front ++ b ∷ bytes) → (IsLegalText bytes → IsLegalText value) → IsLegalText (front ++ value)
+changed_after front b bytes value ascii h then =
     let whole = legal_split front (b ∷ bytes) ascii h in
-    legal_join front value whole.0 (then (legal_behind b bytes ascii whole.1))
+    legal_join front value whole.0 (then (legal_after b bytes ascii whole.1))
 
 kept_before : (front : List ℕ) (b : ℕ) (bytes value : List ℕ) → IsLegalText (front ++ b ∷ bytes) → (IsLegalText ((front ++ b ∷ []) ++ bytes) → IsLegalText ((front ++ b ∷ []) ++ value)) → IsLegalText (front ++ b ∷ value)
 kept_before front b bytes value h then = subst IsLegalText (sym (longer front b value)) (then (subst IsLegalText (longer front b bytes) h))
 
-lines_are_legal : (returned : Bool) (front bytes : List ℕ) → IsLegalText (front ++ bytes) → IsLegalText (front ++ lines_ended_behind returned bytes)
+lines_are_legal : (returned : Bool) (front bytes : List ℕ) → IsLegalText (front ++ bytes) → IsLegalText (front ++ lines_ended_after returned bytes)
 lines_are_legal returned front [] h = h
 lines_are_legal returned front (b ∷ bs) h =
     elim (cases_Bool (b == 13)) [
-      | inl return ↦ rw return (changed_behind front b bs (10 ∷ lines_ended_behind true bs) (below b 13 return (omega arith)) h (λ text. legal_join (10 ∷ []) (lines_ended_behind true bs) legal_feed (lines_are_legal true [] bs text)))
+      | inl return ↦ rw return (changed_after front b bs (10 ∷ lines_ended_after true bs) (below b 13 return (omega arith)) h (λ text. legal_join (10 ∷ []) (lines_ended_after true bs) legal_feed (lines_are_legal true [] bs text)))
       | inr other ↦
           elim (cases_Bool (returned && b == 10)) [
-            | inl feed ↦ rw (other, feed) (changed_behind front b bs (lines_ended_behind false bs) (below b 10 (and_parts returned (b == 10) feed).1 (omega arith)) h (lines_are_legal false [] bs))
-            | inr plain ↦ rw (other, plain) (kept_before front b bs (lines_ended_behind false bs) h (lines_are_legal false (front ++ b ∷ []) bs))
+            | inl feed ↦ rw (other, feed) (changed_after front b bs (lines_ended_after false bs) (below b 10 (and_parts returned (b == 10) feed).1 (omega arith)) h (lines_are_legal false [] bs))
+            | inr plain ↦ rw (other, plain) (kept_before front b bs (lines_ended_after false bs) h (lines_are_legal false (front ++ b ∷ []) bs))
           ]
     ]
   where
@@ -140,7 +140,7 @@ spaces_are_legal : (front bytes : List ℕ) → IsLegalText (front ++ bytes) →
 spaces_are_legal front [] h = h
 spaces_are_legal front (b ∷ bs) h =
     elim (cases_Bool (b == 9 || b == 10)) [
-      | inl white ↦ rw white (changed_behind front b bs (32 ∷ map spaced bs) (low b white) h (λ text. legal_join (32 ∷ []) (map spaced bs) legal_space (spaces_are_legal [] bs text)))
+      | inl white ↦ rw white (changed_after front b bs (32 ∷ map spaced bs) (low b white) h (λ text. legal_join (32 ∷ []) (map spaced bs) legal_space (spaces_are_legal [] bs text)))
       | inr plain ↦ rw plain (kept_before front b bs (map spaced bs) h (spaces_are_legal (front ++ b ∷ []) bs))
     ]
   where
@@ -152,9 +152,9 @@ spaces_are_legal front (b ∷ bs) h =
 spaces_begin : (b : ℕ) → is_space b ≡ true → b < 128
 spaces_begin b e = grind (arith, nat_tests)
 
-legal_behind_space : (xs ys : List ℕ) → Each is_space xs → IsLegalText (xs ++ ys) → IsLegalText ys
-legal_behind_space [] ys each h = h
-legal_behind_space (x ∷ xs) ys each h = legal_behind_space xs ys each.1 (legal_behind x (xs ++ ys) (spaces_begin x each.0) h)
+legal_after_space : (xs ys : List ℕ) → Each is_space xs → IsLegalText (xs ++ ys) → IsLegalText ys
+legal_after_space [] ys each h = h
+legal_after_space (x ∷ xs) ys each h = legal_after_space xs ys each.1 (legal_after x (xs ++ ys) (spaces_begin x each.0) h)
 
 written_is_legal : (w : Written) (rest : List ℕ) → IsWritten w → IsLegalText (written w ++ rest) → IsLegalText w.body × IsLegalText rest
 written_is_legal w rest is h =
@@ -164,11 +164,11 @@ written_is_legal w rest is h =
     let t0 = w.before ++ (61 ∷ t1) in
     let ascii = quote_is_ascii q is.quote in
     let whole : IsLegalText (w.gap ++ (w.name ++ t0)) = subst IsLegalText (parts_again w.gap w.name w.before w.after q w.body rest) h in
-    let named = legal_split w.name t0 (space_begins w.before (61 ∷ t1) is.before (omega arith)) (legal_behind_space w.gap (w.name ++ t0) is.gap whole) in
-    let after_equals = legal_behind 61 t1 (omega arith) (legal_behind_space w.before (61 ∷ t1) is.before named.1) in
-    let inside = legal_behind q t2 ascii (legal_behind_space w.after (q ∷ t2) is.after after_equals) in
+    let named = legal_split w.name t0 (space_begins w.before (61 ∷ t1) is.before (omega arith)) (legal_after_space w.gap (w.name ++ t0) is.gap whole) in
+    let after_equals = legal_after 61 t1 (omega arith) (legal_after_space w.before (61 ∷ t1) is.before named.1) in
+    let inside = legal_after q t2 ascii (legal_after_space w.after (q ∷ t2) is.after after_equals) in
     let valued = legal_split w.body (q ∷ rest) ascii inside in
-    (valued.0, legal_behind q rest ascii valued.1)
+    (valued.0, legal_after q rest ascii valued.1)
 
 attribute_is_legal : (w : Written) (attribute : Attribute) → IsAttribute w attribute → IsLegalText w.body → IsLegalText attribute.value
 attribute_is_legal w attribute is body =
@@ -189,16 +189,16 @@ tag_is_legal : (c : ℕ) (cs name : List ℕ) (attributes : List Attribute) (byt
 tag_is_legal c cs name attributes bytes ascii tag h =
     let end = tag.gap ++ (c ∷ cs) in
     let t0 = flat_map written tag.writtens ++ end in
-    let inner = legal_behind 60 (name ++ t0) (omega arith) (subst IsLegalText tag.spelling h) in
+    let inner = legal_after 60 (name ++ t0) (omega arith) (subst IsLegalText tag.spelling h) in
     let named = legal_split name t0 (writtens_begin tag.writtens end tag.each (space_begins tag.gap (c ∷ cs) tag.space ascii)) inner in
     attributes_are_legal tag.writtens attributes end tag.each tag.are named.1
 
--- what is behind a text of ASCII bytes
+-- what is after a text of ASCII bytes
 legal_past : (xs ys : List ℕ) → list_all (λ byte. nat_lt byte 128) xs ≡ true → IsLegalText (xs ++ ys) → IsLegalText ys
 legal_past [] ys ascii h = h
 legal_past (x ∷ xs) ys ascii h =
     let both = and_parts (nat_lt x 128) (list_all (λ byte. nat_lt byte 128) xs) ascii in
-    legal_past xs ys both.1 (legal_behind x (xs ++ ys) (ltb-true x 128 both.0) h)
+    legal_past xs ys both.1 (legal_after x (xs ++ ys) (ltb-true x 128 both.0) h)
 
 cdata_is_legal : (value bytes : List ℕ) → IsCdata value bytes → IsLegalText bytes → IsLegalText value
 cdata_is_legal value bytes is h =
@@ -216,6 +216,6 @@ spelling_is_legal (tokens.Empty name attributes) bytes is h = tag_is_legal 47 (6
 spelling_is_legal (tokens.End name) bytes is h = tt
 spelling_is_legal (tokens.Characters value) bytes is h = resolved_is_legal [] (lines_ended bytes) value is.means (lines_are_legal false [] bytes h)
 
--- the texts of a token that stands are legal
+-- the texts of a token that occurs are legal
 pub token_is_legal : (bytes : List ℕ) (k : ℕ) (token : Token) (e : ℕ) → TokenAt bytes k token e → HasLegalTexts token
-token_is_legal bytes k token e at = spelling_is_legal token at.spelling at.stands.spells at.stands.legal
+token_is_legal bytes k token e at = spelling_is_legal token at.spelling at.occurs.spells at.occurs.legal

@@ -5,14 +5,14 @@ pub mod RunLaws
 pub mod PartLaws
 pub mod ReferenceLaws
 pub mod ValueLaws
-pub mod SettingLaws
+pub mod RawAttributeLaws
 pub mod TextLaws
 pub mod AttributeLaws
 pub mod ShapeLaws
 pub mod TagLaws
 pub mod MarkupLaws
 pub mod TokenLaws
-pub mod PlaceLaws
+pub mod OffsetLaws
 pub mod LegalLaws
 pub mod ValuedTrees
 pub mod ValuedIds

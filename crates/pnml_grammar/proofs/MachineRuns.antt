@@ -1,5 +1,5 @@
 -- Runs of the reading over whole pieces of tokens: what a piece does is said of the state before and the state
--- behind it, whatever follows. An empty tag does what its start tag and its end tag do.
+-- after it, whatever follows. An empty tag does what its start tag and its end tag do.
 use Rattle.std.proofs.Common.{◌≡◌, ℕ, cond, List, [], ◌∷◌, ◌++◌, Some, None, refl, ap, subst, ◌∙◌, append_assoc}
 use Rattle.std.specs.Prelude.{is_none}
 use Rattle.pnml_grammar.specs.declared.token.Attribute.{Attribute}
@@ -11,14 +11,14 @@ use Rattle.pnml_grammar.proofs.RunLaws.{some_is}
 use Rattle.pnml_grammar.proofs.CanonTokens.{element_tokens}
 
 -- the tokens lead from the one state to the other
-pub record Leads (before : State) (list : List Token) (behind : State) : Type 0 where
-  pub whatever : (rest : List Token) → run before (list ++ rest) ≡ run behind rest
+pub record Leads (before : State) (list : List Token) (beyond : State) : Type 0 where
+  pub whatever : (rest : List Token) → run before (list ++ rest) ≡ run beyond rest
 
 pub leads_nowhere : (state : State) → Leads state [] state
 leads_nowhere state = record { whatever = λ rest. refl }
 
-pub leads_on : (before middle behind : State) (list more : List Token) → Leads before list middle → Leads middle more behind → Leads before (list ++ more) behind
-leads_on before middle behind list more first second = record {
+pub leads_on : (before middle beyond : State) (list more : List Token) → Leads before list middle → Leads middle more beyond → Leads before (list ++ more) beyond
+leads_on before middle beyond list more first second = record {
   whatever = λ rest. ap (λ (t : List Token). run before t) (append_assoc list more rest) ∙ first.whatever (more ++ rest) ∙ second.whatever rest;
 }
 

@@ -11,15 +11,15 @@ use Rattle.pnml_grammar.specs.Characters.{is_space}
 use Rattle.pnml_grammar.specs.Names.{IsName, is_name_byte}
 use Rattle.pnml_grammar.specs.Values.{lines_ended}
 use Rattle.pnml_grammar.specs.Attributes.{written}
-use Rattle.pnml_grammar.specs.Declarations.{Setting, setting, declare, IsDeclaration}
+use Rattle.pnml_grammar.specs.Declarations.{RawAttribute, raw_attribute, declare, IsDeclaration}
 use Rattle.pnml_grammar.specs.Tokens.{IsComment, IsApart, IsInstruction, IsCdata}
-use Rattle.pnml_grammar.specs.Runs.{passed, behind, past, past_text, until}
+use Rattle.pnml_grammar.specs.Runs.{passed, beyond, past, past_text, until}
 use Rattle.pnml_grammar.specs.Resolving.{text_of}
-use Rattle.pnml_grammar.specs.Reading.{name_at, all_settings_at, comment_at, cdata_at, declaration_at, is_apart, instruction_closed, instruction_at, markup_at, shape_at}
-use Rattle.pnml_grammar.proofs.RunLaws.{bind_some, chosen, some_pair_is, Stops, passed-behind, passed_each, behind_is, past_found, past_text_found}
+use Rattle.pnml_grammar.specs.Reading.{name_at, all_raw_attributes_at, comment_at, cdata_at, declaration_at, is_apart, instruction_closed, instruction_at, markup_at, shape_at}
+use Rattle.pnml_grammar.proofs.RunLaws.{bind_some, chosen, some_pair_is, Stops, passed-beyond, passed_each, after_is, past_found, past_text_found}
 use Rattle.pnml_grammar.proofs.PartLaws.{until_again, until_found, without_more, without_less}
 use Rattle.pnml_grammar.proofs.TextLaws.{text_again, text_found, utf8_split, utf8_past}
-use Rattle.pnml_grammar.proofs.SettingLaws.{space_then, name_again, name_found, all_settings_again, settings_found, no_setting}
+use Rattle.pnml_grammar.proofs.RawAttributeLaws.{space_then, name_again, name_found, all_raw_attributes_again, raw_attributes_found, no_raw_attribute}
 use Rattle.pnml_grammar.proofs.ShapeLaws.{ShapeFound, writtens_stop}
 
 -- ---- comments
@@ -175,10 +175,10 @@ instruction_again bytes rest is =
     (until_again (codes "?>") (codes "?") 62 refl is.body rest (without_more (codes "?>") (codes "?") 62 refl is.body mark_is_apart is.without))
     (apart_is is.body is.apart))
 
-declaration_made : (bytes : List ℕ) (settings : List Setting) (t0 t1 rest : List ℕ) → all_settings_at bytes ≡ (settings, t0) → behind is_space t0 ≡ t1 → past_text (codes "?>") t1 ≡ Some rest → declare settings ≡ true
+declaration_made : (bytes : List ℕ) (raw_attributes : List RawAttribute) (t0 t1 rest : List ℕ) → all_raw_attributes_at bytes ≡ (raw_attributes, t0) → beyond is_space t0 ≡ t1 → past_text (codes "?>") t1 ≡ Some rest → declare raw_attributes ≡ true
     → declaration_at bytes ≡ Some (Declaration, rest)
 unfolding declaration_at
-declaration_made bytes settings t0 t1 rest e0 e1 e2 e3 = rw (e0, e1, e2, e3) refl
+declaration_made bytes raw_attributes t0 t1 rest e0 e1 e2 e3 = rw (e0, e1, e2, e3) refl
 
 xml_declared : (bytes t : List ℕ) (found : Option (Token × List ℕ)) → name_at bytes ≡ Some (codes "xml", t) → declaration_at t ≡ found → instruction_at bytes ≡ found
 unfolding instruction_at
@@ -202,9 +202,9 @@ declaration_again bytes rest is =
     ∙ open_instruction (codes "xml" ++ t)
     ∙ xml_declared (codes "xml" ++ t) t (Some (Declaration, rest))
     (name_again (codes "xml") t xml_is_name (writtens_stop is.writtens (is.gap ++ end) is.each (space_then is.gap end is.space refl)))
-    (declaration_made t (map setting is.writtens) (is.gap ++ end) end rest
-    (all_settings_again is.writtens (is.gap ++ end) is.each (no_setting is.gap 63 (62 ∷ rest) is.space refl refl))
-    (behind_is is_space is.gap end is.space refl) refl is.declares)
+    (declaration_made t (map raw_attribute is.writtens) (is.gap ++ end) end rest
+    (all_raw_attributes_again is.writtens (is.gap ++ end) is.each (no_raw_attribute is.gap 63 (62 ∷ rest) is.space refl refl))
+    (after_is is_space is.gap end is.space refl) refl is.declares)
 
 declared_parts : (bytes writtens t0 gap t1 rest : List ℕ) → bytes ≡ writtens ++ t0 → t0 ≡ gap ++ t1 → t1 ≡ codes "?>" ++ rest
     → codes "<?xml" ++ bytes ≡ (codes "<?xml" ++ (writtens ++ (gap ++ codes "?>"))) ++ rest
@@ -213,20 +213,20 @@ declared_parts bytes writtens t0 gap t1 rest e0 e1 e2 = rw (e0, e1, e2) (sym (de
 declaration_found : (bytes : List ℕ) (token : Token) (rest : List ℕ) → declaration_at bytes ≡ Some (token, rest) → ShapeFound (codes "<?xml" ++ bytes) token rest
 unfolding declaration_at
 declaration_found bytes token rest e =
-    let t0 = (all_settings_at bytes).1 in
-    let a = bind_some (past_text (codes "?>") (behind is_space t0)) _ (token, rest) e in
-    let g = chosen (declare (all_settings_at bytes).0) (Some (Declaration, a.0)) (token, rest) a.2 in
+    let t0 = (all_raw_attributes_at bytes).1 in
+    let a = bind_some (past_text (codes "?>") (beyond is_space t0)) _ (token, rest) e in
+    let g = chosen (declare (all_raw_attributes_at bytes).0) (Some (Declaration, a.0)) (token, rest) a.2 in
     let p = some_pair_is Declaration token a.0 rest g.1 in
-    let settings = settings_found (suc (length bytes)) bytes in
-    let writtens = flat_map written settings.writtens in
+    let raw_attributes = raw_attributes_found (suc (length bytes)) bytes in
+    let writtens = flat_map written raw_attributes.writtens in
     let here : ShapeFound (codes "<?xml" ++ bytes) Declaration a.0 = record {
       spelling = codes "<?xml" ++ (writtens ++ (passed is_space t0 ++ codes "?>"));
-      parts = declared_parts bytes writtens t0 (passed is_space t0) (behind is_space t0) a.0 settings.parts (sym (passed-behind is_space t0))
-          (past_text_found (codes "?>") (behind is_space t0) a.0 a.1);
+      parts = declared_parts bytes writtens t0 (passed is_space t0) (beyond is_space t0) a.0 raw_attributes.parts (sym (passed-beyond is_space t0))
+          (past_text_found (codes "?>") (beyond is_space t0) a.0 a.1);
       spells = record {
-        writtens = settings.writtens;
-        each = settings.each;
-        declares = ap declare settings.give ∙ g.0;
+        writtens = raw_attributes.writtens;
+        each = raw_attributes.each;
+        declares = ap declare raw_attributes.give ∙ g.0;
         gap = passed is_space t0;
         space = passed_each is_space t0;
         spelling = refl;

@@ -9,7 +9,7 @@ use Rattle.pnml_grammar.specs.declared.element.ElementKind.TheVariants as elemen
 use Rattle.pnml_grammar.specs.declared.element.Context.{Context}
 use Rattle.pnml_grammar.specs.declared.element.Context.TheVariants as contexts
 use Rattle.pnml_grammar.specs.declared.token.Attribute.{Attribute}
-use Rattle.pnml_grammar.specs.Elements.{element_named, context_in, context_if_any, context_of_kind, context_of_text, may_hold, may_stand, may_stand_as, element_names, element_kinds, attribute_named, attribute_names, attribute_kinds, has_namespace, has_type, has_attributes, has_needed, fits, is_id}
+use Rattle.pnml_grammar.specs.Elements.{element_named, context_in, context_if_any, context_of_kind, context_of_text, may_hold, may_occur, may_occur_as, element_names, element_kinds, attribute_named, attribute_names, attribute_kinds, has_namespace, has_type, has_attributes, has_needed, fits, is_id}
 use Rattle.pnml_grammar.specs.Canon.{namespace, net_type}
 use Rattle.pnml_grammar.specs.Numerals.{number_in, numeral}
 use Rattle.pnml_grammar.specs.Trees.{Node, element, empty_element, characters, none, ◌and◌, node_tokens, node_height}
@@ -44,13 +44,13 @@ root_named : element_named (codes "pnml") ≡ Some elements.Pnml
 unfolding element_named element_names element_kinds
 root_named = refl
 
-net_stands : IsTrue (may_stand contexts.Pnml (codes "net") net_attributes)
+net_occurs : IsTrue (may_occur contexts.Pnml (codes "net") net_attributes)
 unfolding element_named element_names element_kinds attribute_named attribute_names attribute_kinds has_namespace has_type has_attributes has_needed fits is_id
-net_stands = refl
+net_occurs = refl
 
-root_stands : IsTrue (may_stand contexts.Document (codes "pnml") root_attributes)
+root_occurs : IsTrue (may_occur contexts.Document (codes "pnml") root_attributes)
 unfolding element_named element_names element_kinds attribute_named attribute_names attribute_kinds has_namespace has_type has_attributes has_needed fits is_id
-root_stands = refl
+root_occurs = refl
 
 net_legal : HaveLegalValues net_attributes
 net_legal = (printed_text (codes "n") refl, (printed_text net_type refl, tt))
@@ -72,17 +72,17 @@ pub record Completes (context : Context) (content : Content) (node : Node) : Typ
 none_yet : {A : Type 0} (xs : List A) → nat_le 1 (length xs) ≡ false → length xs ≡ 0
 none_yet xs e = let short = leb-false 1 (length xs) e in omega arith
 
-one_behind : {A : Type 0} (xs : List A) (x : A) → nat_le 1 (length (xs ++ x ∷ [])) ≡ true
-one_behind xs x = le-leb 1 (length (xs ++ x ∷ [])) (omega (arith, length-append xs (x ∷ [])))
+one_after : {A : Type 0} (xs : List A) (x : A) → nat_le 1 (length (xs ++ x ∷ [])) ≡ true
+one_after xs x = le-leb 1 (length (xs ++ x ∷ [])) (omega (arith, length-append xs (x ∷ [])))
 
 pub missing_completes : (context : Context) (content : Content) → HasFew content → is_complete context content ≡ false → Completes context content (missing context)
 unfolding element_named element_names element_kinds number_in numeral
 missing_completes contexts.Pnml content few e =
     let lacks = none_yet content.nets e in
     record {
-      child = (net_stands, record { few = few_nothing; complete = refl });
+      child = (net_occurs, record { few = few_nothing; complete = refl });
       few = few_from content (node_content contexts.Pnml empty_net) (omega arith);
-      complete = one_behind content.nets _;
+      complete = one_after content.nets _;
       uncounted = refl;
       legal = (net_legal, tt);
     }
@@ -91,7 +91,7 @@ missing_completes contexts.MarkingText content few e =
     record {
       child = refl;
       few = few_from content (node_content contexts.MarkingText (characters (codes "1"))) (omega arith);
-      complete = one_behind content.numerals 1;
+      complete = one_after content.numerals 1;
       uncounted = refl;
       legal = (printed_text (codes "1") refl, tt);
     }
@@ -100,18 +100,18 @@ missing_completes contexts.WeightText content few e =
     record {
       child = refl;
       few = few_from content (node_content contexts.WeightText (characters (codes "1"))) (omega arith);
-      complete = one_behind content.numerals 1;
+      complete = one_after content.numerals 1;
       uncounted = refl;
       legal = (printed_text (codes "1") refl, tt);
     }
 missing_completes context content few e = absurd (true≢false e)
 
--- but the net, which stands in the root alone, what is missing is no element
+-- but the net, which is in the root only, what is missing is no element
 pub missing_low : (context : Context) → (context ≡ contexts.Pnml) ⊎ (node_height (missing context) ≡ 0)
 missing_low contexts.Pnml = inl refl
 missing_low context = inr refl
 
--- ---- the root stands outermost
+-- ---- the root occurs outermost
 
 abbrev is_root : Context → Bool
 is_root contexts.Pnml = true
@@ -131,18 +131,18 @@ root_outermost elements.Text context inside root holds = absurd (true≢false (s
 root_outermost kind context inside root holds = absurd (true≢false (sym root))
 
 root_outermost_of : (kind : Option ElementKind) (context : Context) (attributes : List Attribute) → is_inside context ≡ true → is_root (context_if_any context kind) ≡ true
-    → IsTrue (may_stand_as context kind attributes) → is_outside context ≡ true
-root_outermost_of None context attributes inside root stands = absurd (true≢false (sym stands))
-root_outermost_of (Some kind) context attributes inside root stands = root_outermost kind context inside root (and_parts _ (may_hold context kind) stands).1
+    → IsTrue (may_occur_as context kind attributes) → is_outside context ≡ true
+root_outermost_of None context attributes inside root occurs = absurd (true≢false (sym occurs))
+root_outermost_of (Some kind) context attributes inside root occurs = root_outermost kind context inside root (and_parts _ (may_hold context kind) occurs).1
 
-root_outermost_in : (context : Context) (name : List ℕ) (attributes : List Attribute) → IsTrue (may_stand context name attributes)
+root_outermost_in : (context : Context) (name : List ℕ) (attributes : List Attribute) → IsTrue (may_occur context name attributes)
     → is_root (context_in context (element_named name)) ≡ true → is_outside context ≡ true
-root_outermost_in contexts.Skipped name attributes stands root = absurd (true≢false (sym root))
-root_outermost_in context name attributes stands root = root_outermost_of (element_named name) context attributes refl root stands
+root_outermost_in contexts.Skipped name attributes occurs root = absurd (true≢false (sym root))
+root_outermost_in context name attributes occurs root = root_outermost_of (element_named name) context attributes refl root occurs
 
-pub root_is_outermost : (context : Context) (name : List ℕ) (attributes : List Attribute) → IsTrue (may_stand context name attributes)
+pub root_is_outermost : (context : Context) (name : List ℕ) (attributes : List Attribute) → IsTrue (may_occur context name attributes)
     → context_in context (element_named name) ≡ contexts.Pnml → is_outside context ≡ true
-root_is_outermost context name attributes stands root = root_outermost_in context name attributes stands (ap is_root root)
+root_is_outermost context name attributes occurs root = root_outermost_in context name attributes occurs (ap is_root root)
 
 -- ---- a document without a root
 
@@ -161,7 +161,7 @@ root_makes_whole content few lacks =
     let short : length content.nets ≡ 0 = ap length lacks in
     record {
       net = record { id = codes "n"; name = None; items = [] };
-      child = (root_stands, ((net_stands, record { few = few_nothing; complete = refl }), tt), record { few = omega arith; complete = refl });
+      child = (root_occurs, ((net_occurs, record { few = few_nothing; complete = refl }), tt), record { few = omega arith; complete = refl });
       few = few_from content (node_content contexts.Document whole_root) (omega arith);
       one = ap (λ (nets : List NetTree). nets ++ record { id = codes "n"; name = None; items = [] } ∷ []) lacks;
       uncounted = refl;

@@ -14,8 +14,8 @@ use Rattle.pnml_grammar.specs.declared.element.Context.TheVariants as contexts
 use Rattle.pnml_grammar.specs.Characters.{Each, is_space, is_between}
 use Rattle.pnml_grammar.specs.Numerals.{is_digit, numeral, number_in}
 use Rattle.pnml_grammar.specs.Canon.{escape, escaped}
-use Rattle.pnml_grammar.specs.Runs.{passed, behind}
-use Rattle.pnml_grammar.proofs.RunLaws.{passed_is, behind_is}
+use Rattle.pnml_grammar.specs.Runs.{passed, beyond}
+use Rattle.pnml_grammar.proofs.RunLaws.{passed_is, after_is}
 use Rattle.pnml_grammar.proofs.EscapeLaws.{is_printed, printed_text, is_clean, escape_plain}
 
 one_digit : (d : ℕ) → d < 10 → list_all is_digit ((48 + d) ∷ []) ≡ true
@@ -66,7 +66,7 @@ each_digit (b ∷ bs) e =
     let p = and_parts (is_digit b) (list_all is_digit bs) e in
     (p.0, each_digit bs p.1)
 
-no_space : (bytes : List ℕ) → list_all is_digit bytes ≡ true → behind is_space bytes ≡ bytes
+no_space : (bytes : List ℕ) → list_all is_digit bytes ≡ true → beyond is_space bytes ≡ bytes
 no_space [] e = refl
 no_space (b ∷ bs) e =
     let p = and_parts (is_digit b) (list_all is_digit bs) e in
@@ -76,10 +76,10 @@ no_space (b ∷ bs) e =
 all_passed : (bytes : List ℕ) → list_all is_digit bytes ≡ true → passed is_digit bytes ≡ bytes
 all_passed bytes e = ap (passed is_digit) (sym (append-nil bytes)) ∙ passed_is is_digit bytes [] (each_digit bytes e) tt
 
-none_behind : (bytes : List ℕ) → list_all is_digit bytes ≡ true → behind is_digit bytes ≡ []
-none_behind bytes e = ap (behind is_digit) (sym (append-nil bytes)) ∙ behind_is is_digit bytes [] (each_digit bytes e) tt
+none_after : (bytes : List ℕ) → list_all is_digit bytes ≡ true → beyond is_digit bytes ≡ []
+none_after bytes e = ap (beyond is_digit) (sym (append-nil bytes)) ∙ after_is is_digit bytes [] (each_digit bytes e) tt
 
-numeral_made : (bytes : List ℕ) (n : ℕ) → behind is_space bytes ≡ bytes → passed is_digit bytes ≡ bytes → behind is_digit bytes ≡ [] → nat_le 1 (length bytes) ≡ true → digits_value 10 bytes ≡ n
+numeral_made : (bytes : List ℕ) (n : ℕ) → beyond is_space bytes ≡ bytes → passed is_digit bytes ≡ bytes → beyond is_digit bytes ≡ [] → nat_le 1 (length bytes) ≡ true → digits_value 10 bytes ≡ n
     → numeral bytes ≡ Some n
 unfolding numeral
 numeral_made bytes n e0 e1 e2 e3 e4 = rw (e0, e1, e2, e3, e4) refl
@@ -87,7 +87,7 @@ numeral_made bytes n e0 e1 e2 e3 e4 = rw (e0, e1, e2, e3, e4) refl
 pub decimal_numeral : (n : ℕ) → n < 2 ^ 64 → numeral (decimal n) ≡ Some n
 decimal_numeral n small =
     let digits = all_digits n small in
-    numeral_made (decimal n) n (no_space (decimal n) digits) (all_passed (decimal n) digits) (none_behind (decimal n) digits)
+    numeral_made (decimal n) n (no_space (decimal n) digits) (all_passed (decimal n) digits) (none_after (decimal n) digits)
     (le-leb 1 (length (decimal n)) (decimal_nonempty n small)) (decimal_is_IsNumeral n small).1
 
 pub decimal_marking : (n : ℕ) → n < 2 ^ 64 → number_in contexts.MarkingText (decimal n) ≡ Some n

@@ -1,4 +1,4 @@
--- Bytes have at most one fault: one faulty place lies before no other, and what stands there tells the reason.
+-- Bytes have at most one fault: one faulty offset lies before no other, and what is there tells the reason.
 -- They have none where they spell a document: they are text then, and each front of its tokens begins it.
 use Rattle.std.proofs.Common.{◌≡◌, ℕ, ◌+◌, ◌<◌, ◌≤◌, Bool, true, false, cond, List, [], ◌∷◌, ◌++◌, refl, sym, ap, subst, ◌∙◌, arith, inl, inr, length, drop, drop-drop, append_assoc}
 use Rattle.std.specs.Prelude.{◌⊎◌, IsUtf8, nat_eq}
@@ -8,30 +8,30 @@ use Rattle.std.proofs.Math.Seq.{drop-append_seam, drop-length}
 use Rattle.net_values.specs.declared.document.Document.{Document}
 use Rattle.pnml_grammar.specs.declared.reason.Reason.{Reason}
 use Rattle.pnml_grammar.specs.declared.token.Token.{Token}
-use Rattle.pnml_grammar.specs.Tokens.{TokensTo, first_place}
+use Rattle.pnml_grammar.specs.Tokens.{TokensTo, first_offset}
 use Rattle.pnml_grammar.specs.Documents.{Spells, DocBytes}
 use Rattle.pnml_grammar.specs.Machine.{State, reason_of}
 use Rattle.pnml_grammar.specs.FirstFault.{state_of, IsFaulty, HasNoToken, HasBadToken, IsFirstFaulty, IsUtf8UpTo, Fault, not_utf8, at, truncated, FirstFault, HaveOneAnswer}
 use Rattle.pnml_grammar.proofs.RunLaws.{some_is, past_text_found}
 use Rattle.pnml_grammar.proofs.TextLaws.{legal_utf8}
-use Rattle.pnml_grammar.proofs.PlaceLaws.{tokens_ascend, one_goes_on, one_list}
-use Rattle.pnml_grammar.proofs.TokenLaws.{one_token_stands}
-use Rattle.pnml_grammar.proofs.SpotLaws.{one_state_behind}
+use Rattle.pnml_grammar.proofs.OffsetLaws.{tokens_ascend, one_goes_on, one_list}
+use Rattle.pnml_grammar.proofs.TokenLaws.{one_token_occurs}
+use Rattle.pnml_grammar.proofs.SpotLaws.{one_state_after}
 
--- ---- one reason at a place
+-- ---- one reason at an offset
 
 bad_reason : (bytes : List ℕ) (k : ℕ) (reason other : Reason) → HasBadToken bytes k reason → HasBadToken bytes k other → reason ≡ other
 bad_reason bytes k reason other one two =
-    let lists = one_list bytes one.list two.list (first_place bytes) k one.reaches two.reaches in
-    let states = one_state_behind one.spot two.spot one.list one.behind (lists ∙ two.behind) in
-    let tokens = (one_token_stands bytes k one.token two.token one.end two.end one.stands two.stands).0 in
+    let lists = one_list bytes one.list two.list (first_offset bytes) k one.reaches two.reaches in
+    let states = one_state_after one.spot two.spot one.list one.beyond (lists ∙ two.beyond) in
+    let tokens = (one_token_occurs bytes k one.token two.token one.end two.end one.occurs two.occurs).0 in
     some_is reason other
     (sym one.applies ∙ ap (λ (s : State). reason_of s one.token) states ∙ ap (reason_of (state_of two.spot)) tokens ∙ two.applies)
 
 one_reason : (bytes : List ℕ) (k : ℕ) (reason other : Reason) → HasNoToken bytes k reason ⊎ HasBadToken bytes k reason → HasNoToken bytes k other ⊎ HasBadToken bytes k other → reason ≡ other
 one_reason bytes k reason other (inl one) (inl two) = one.reason_is ∙ sym two.reason_is
-one_reason bytes k reason other (inl one) (inr two) = absurd (one.nothing_there two.token two.end two.stands)
-one_reason bytes k reason other (inr one) (inl two) = absurd (two.nothing_there one.token one.end one.stands)
+one_reason bytes k reason other (inl one) (inr two) = absurd (one.nothing_there two.token two.end two.occurs)
+one_reason bytes k reason other (inr one) (inl two) = absurd (two.nothing_there one.token one.end one.occurs)
 one_reason bytes k reason other (inr one) (inr two) = bad_reason bytes k reason other one two
 
 -- ---- one fault
@@ -63,25 +63,25 @@ one_fault bytes (truncated k) (truncated j) one two = ap truncated (one.3 ∙ sy
 
 no_fault : (bytes : List ℕ) (document : Document) → DocBytes document bytes → (k : ℕ) → IsFaulty bytes k → ⊥
 no_fault bytes document is k faulty =
-    elim (one_goes_on bytes is.list faulty.list (first_place bytes) (length bytes) k is.tokens_are faulty.reaches) [
+    elim (one_goes_on bytes is.list faulty.list (first_offset bytes) (length bytes) k is.tokens_are faulty.reaches) [
       | inl on ↦ absurd (omega (arith, tokens_ascend bytes on.more (length bytes) k on.reaches, faulty.inside))
       | inr longer ↦
           let whole : is.list ≡ (faulty.list ++ longer.token ∷ []) ++ longer.more = longer.parts ∙ sym (append_assoc faulty.list (longer.token ∷ []) longer.more) in
-          faulty.nothing_next longer.token longer.end longer.stands
+          faulty.nothing_next longer.token longer.end longer.occurs
           (record { rest = longer.more; document = document; spells = subst (λ (list : List Token). Spells document list) whole is.spells })
     ]
 
-behind_token : (bytes : List ℕ) (k n : ℕ) (spelling rest : List ℕ) → drop k bytes ≡ spelling ++ rest → n ≡ k + length spelling → drop n bytes ≡ rest
-behind_token bytes k n spelling rest parts end =
+after_token : (bytes : List ℕ) (k n : ℕ) (spelling rest : List ℕ) → drop k bytes ≡ spelling ++ rest → n ≡ k + length spelling → drop n bytes ≡ rest
+after_token bytes k n spelling rest parts end =
     ap (λ (m : ℕ). drop m bytes) end ∙ sym (drop-drop (length spelling) k bytes) ∙ ap (drop (length spelling)) parts ∙ drop-append_seam spelling rest
 
 -- tokens to the end are text
 text_of_tokens : (bytes : List ℕ) (list : List Token) (k : ℕ) → TokensTo bytes k list (length bytes) → IsUtf8 (drop k bytes)
 text_of_tokens bytes [] k to = subst IsUtf8 (sym (ap (λ (m : ℕ). drop m bytes) to ∙ drop-length bytes)) IsUtf8-nil
 text_of_tokens bytes (token ∷ list) k to =
-    let stands = to.1.stands in
-    let rest = subst IsUtf8 (behind_token bytes k to.0 to.1.spelling to.1.rest stands.parts to.1.end_is) (text_of_tokens bytes list to.0 to.2) in
-    subst IsUtf8 (sym stands.parts) (IsUtf8-append to.1.spelling to.1.rest (legal_utf8 to.1.spelling stands.legal) rest)
+    let occurs = to.1.occurs in
+    let rest = subst IsUtf8 (after_token bytes k to.0 to.1.spelling to.1.rest occurs.parts to.1.end_is) (text_of_tokens bytes list to.0 to.2) in
+    subst IsUtf8 (sym occurs.parts) (IsUtf8-append to.1.spelling to.1.rest (legal_utf8 to.1.spelling occurs.legal) rest)
 
 mark : List ℕ
 mark = 0xEF ∷ 0xBB ∷ 0xBF ∷ []
@@ -90,9 +90,9 @@ mark_is_text : IsUtf8 mark
 unfolding mark lib.Utf8.encode
 mark_is_text = (0xFEFF ∷ [], (refl, refl))
 
-text_behind_mark : (bytes : List ℕ) → IsUtf8 (drop (first_place bytes) bytes) → IsUtf8 bytes
+text_after_mark : (bytes : List ℕ) → IsUtf8 (drop (first_offset bytes) bytes) → IsUtf8 bytes
 unfolding mark
-text_behind_mark bytes text = cases (starts_with nat_eq bytes mark) refl
+text_after_mark bytes text = cases (starts_with nat_eq bytes mark) refl
   where
     cases : (marked : Bool) → starts_with nat_eq bytes mark ≡ marked → IsUtf8 bytes
     cases true e =
@@ -101,7 +101,7 @@ text_behind_mark bytes text = cases (starts_with nat_eq bytes mark) refl
     cases false e = subst (λ (b : Bool). IsUtf8 (drop (cond b 3 0) bytes)) e text
 
 no_document : (bytes : List ℕ) (fault : Fault) → FirstFault bytes fault → (document : Document) → DocBytes document bytes → ⊥
-no_document bytes (not_utf8 k) first document is = first.0 (text_behind_mark bytes (text_of_tokens bytes is.list (first_place bytes) is.tokens_are))
+no_document bytes (not_utf8 k) first document is = first.0 (text_after_mark bytes (text_of_tokens bytes is.list (first_offset bytes) is.tokens_are))
 no_document bytes (at k reason) first document is = no_fault bytes document is k first.1.faulty
 no_document bytes (truncated k) first document is = first.2 document is
 

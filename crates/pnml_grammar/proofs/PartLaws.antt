@@ -1,5 +1,5 @@
--- The first place of a part. Where the part is `front` and a last byte, its first place in
--- body ++ part is behind the body just where the part stands nowhere in body ++ front: a place of it that
+-- The first offset of a part. Where the part is `front` and a last byte, its first offset in
+-- body ++ part is after the body just where the part occurs nowhere in body ++ front: an offset of it that
 -- is not the last one ends before the last byte.
 use Rattle.std.proofs.Common.{◌≡◌, ℕ, suc, ◌+◌, ◌-◌, ◌<◌, ◌≤◌, ◌≢◌, Bool, true, false, List, [], ◌∷◌, ◌++◌, Option, Some, None, refl, sym, ap, ◌∙◌, length, take, drop, get_or, append_assoc, arith, inl, inr, length-append}
 use Rattle.std.specs.Prelude.{nat_eq}
@@ -39,7 +39,7 @@ until_starts part (b ∷ bs) e = rw e refl
 until_goes_on : (part : List ℕ) (b : ℕ) (bs : List ℕ) → starts part (b ∷ bs) ≡ false → until part (b ∷ bs) ≡ with_byte b (until part bs)
 until_goes_on part b bs e = rw e refl
 
--- nothing is found just where the part stands nowhere
+-- nothing is found just where the part occurs nowhere
 pub until_none : (part bytes : List ℕ) → Without part bytes → until part bytes ≡ None
 until_none part [] h =
     elim (cases_Bool (starts part [])) [
@@ -94,7 +94,7 @@ module _ (part front : List ℕ) (c : ℕ) (is : part ≡ front ++ c ∷ []) whe
       regrouped : (bs rest : List ℕ) → ((b ∷ bs) ++ front) ++ (c ∷ rest) ≡ b ∷ (bs ++ (part ++ rest))
       regrouped bs rest = rw is (simp append_assoc)
 
-  -- the part is no longer than what it stands in
+  -- the part is no longer than what it is in
   short_without : Without part front
   short_without before after e =
       let lengths = ap length e in
@@ -139,7 +139,7 @@ module _ (part front : List ℕ) (c : ℕ) (is : part ≡ front ++ c ∷ []) whe
             moved b bs (b ∷ w.0.0) w.0.1 body rest p.0 p.1 (ap (λ (t : List ℕ). b ∷ t) ih.0) (no_new b bs w.0.0 w.0.1 ih.0 other ih.1)
       ]
 
-  -- where the last byte is none of the others, a place of the part in body ++ front is one in the body
+  -- where the last byte is none of the others, an offset of the part in body ++ front is one in the body
   pub without_more : (body : List ℕ) → ((i : ℕ) → i < length front → get_or front i 0 ≢ c) → Without part body → Without part (body ++ front)
   without_more body apart h before after e =
       let at : get_or (body ++ front) (length before + length front) 0 ≡ c =

@@ -4,11 +4,11 @@ use Rattle.std.proofs.Common.{◌≡◌, ℕ, List, [], ◌∷◌, ◌++◌, Opt
 use Rattle.pnml_grammar.specs.declared.reason.Reason.{Reason}
 use Rattle.pnml_grammar.specs.declared.token.Token.{Token}
 use Rattle.pnml_grammar.specs.declared.token.Token.TheVariants as tokens
-use Rattle.pnml_grammar.specs.Tokens.{TokenAt, first_place}
+use Rattle.pnml_grammar.specs.Tokens.{TokenAt, first_offset}
 use Rattle.pnml_grammar.specs.Runs.{◌>>=◌}
-use Rattle.pnml_grammar.specs.Machine.{State, start, reason_of, next, step, run, behind_declaration, reached}
+use Rattle.pnml_grammar.specs.Machine.{State, start, reason_of, next, step, run, after_declaration, reached}
 use Rattle.pnml_grammar.specs.ReadTo.{IsReadTo}
-use Rattle.pnml_grammar.proofs.PlaceLaws.{tokens_then}
+use Rattle.pnml_grammar.proofs.OffsetLaws.{tokens_then}
 
 -- ---- runs
 
@@ -22,18 +22,18 @@ run_append state (token ∷ list) more =
     (λ i. step state token >>= λ after. run_append after list more i)
     ∙ bind_again (step state token) (λ after. run after list) (λ after. run after more)
 
--- no declaration stands behind a declaration in front
-declaration_in_front : (token : Token) (list more : List Token) → behind_declaration ((token ∷ list) ++ more) ≡ behind_declaration (token ∷ list) ++ more
+-- no declaration follows a declaration in front
+declaration_in_front : (token : Token) (list more : List Token) → after_declaration ((token ∷ list) ++ more) ≡ after_declaration (token ∷ list) ++ more
 declaration_in_front tokens.Declaration list more = refl
 declaration_in_front _ list more = refl
 
 -- ---- what was read up to an offset
 
 -- a declaration that is no first token is taken like any other token
-behind_one_more : (list : List Token) (token : Token) → (list ≡ [] → token ≡ tokens.Declaration → ⊥) → behind_declaration (list ++ token ∷ []) ≡ behind_declaration list ++ token ∷ []
-behind_one_more (first ∷ list) token later = declaration_in_front first list (token ∷ [])
-behind_one_more [] tokens.Declaration later = absurd (later refl refl)
-behind_one_more [] _ later = refl
+after_one_more : (list : List Token) (token : Token) → (list ≡ [] → token ≡ tokens.Declaration → ⊥) → after_declaration (list ++ token ∷ []) ≡ after_declaration list ++ token ∷ []
+after_one_more (first ∷ list) token later = declaration_in_front first list (token ∷ [])
+after_one_more [] tokens.Declaration later = absurd (later refl refl)
+after_one_more [] _ later = refl
 
 one_step : (state : State) (token : Token) → run state (token ∷ []) ≡ step state token
 one_step state token = bind_some_again (step state token)
@@ -47,12 +47,12 @@ pub reached_one_more : (list : List Token) (token : Token) (state : State) → (
     → reached (list ++ token ∷ []) ≡ step state token
 unfolding reached
 reached_one_more list token state later leads =
-    ap (run start) (behind_one_more list token later)
-    ∙ run_append start (behind_declaration list) (token ∷ [])
+    ap (run start) (after_one_more list token later)
+    ∙ run_append start (after_declaration list) (token ∷ [])
     ∙ ap (λ (o : Option State). o >>= λ after. run after (token ∷ [])) leads
     ∙ one_step state token
 
--- at the place of a token it's no declaration in front
+-- at the offset of a token it's no declaration in front
 pub not_in_front : (bytes : List ℕ) (k : ℕ) (state : State) (token : Token) (e : ℕ) (read : IsReadTo bytes k state) → TokenAt bytes k token e
     → read.list ≡ [] → token ≡ tokens.Declaration → ⊥
 not_in_front bytes k state token e read at first declaration = read.declared first e (subst (λ (t : Token). TokenAt bytes k t e) declaration at)
@@ -64,12 +64,12 @@ step_refused : (state : State) (token : Token) (reason : Reason) → reason_of s
 step_refused state token reason some = rw some refl
 
 -- nothing was read in front of the first token, if it isn't a declaration
-pub nothing_is_read : (bytes : List ℕ) → ((e : ℕ) → TokenAt bytes (first_place bytes) tokens.Declaration e → ⊥) → IsReadTo bytes (first_place bytes) start
+pub nothing_is_read : (bytes : List ℕ) → ((e : ℕ) → TokenAt bytes (first_offset bytes) tokens.Declaration e → ⊥) → IsReadTo bytes (first_offset bytes) start
 unfolding reached
 nothing_is_read bytes other = record { list = []; reaches = refl; leads = refl; declared = λ first. other }
 
 -- a declaration in front leads nowhere
-pub declaration_is_read : (bytes : List ℕ) (e : ℕ) → TokenAt bytes (first_place bytes) tokens.Declaration e → IsReadTo bytes e start
+pub declaration_is_read : (bytes : List ℕ) (e : ℕ) → TokenAt bytes (first_offset bytes) tokens.Declaration e → IsReadTo bytes e start
 unfolding reached
 declaration_is_read bytes e at = record { list = tokens.Declaration ∷ []; reaches = (e, at, refl); leads = refl; declared = λ first. absurd cc }
 
@@ -78,7 +78,7 @@ pub token_is_read : (bytes : List ℕ) (k : ℕ) (state : State) (token : Token)
     → IsReadTo bytes e (next state token)
 token_is_read bytes k state token e read at none = record {
   list = read.list ++ token ∷ [];
-  reaches = tokens_then bytes read.list (first_place bytes) k token e read.reaches at;
+  reaches = tokens_then bytes read.list (first_offset bytes) k token e read.reaches at;
   leads = reached_one_more read.list token state (not_in_front bytes k state token e read at) read.leads ∙ step_taken state token none;
   declared = λ first. absurd (none_empty read.list token first);
 }

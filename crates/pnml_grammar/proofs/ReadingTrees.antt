@@ -1,5 +1,5 @@
--- Elements in which each child may stand are read: no token of them has a reason against it, and what was read
--- is what the elements give. By induction on the elements with what stands in them, from any place where they
+-- Elements in which each child may occur are read: no token of them has a reason against it, and what was read
+-- is what the elements give. By induction on the elements with what is in them, from any offset where they
 -- have room.
 use Rattle.std.proofs.Common.{◌≡◌, ℕ, suc, ◌+◌, ◌≤◌, refl, sym, ap, subst, ◌∙◌, List, [], ◌∷◌, ◌++◌, append_assoc, length, Option, Some, None, true, false, IsTrue, arith, bytes_eq, true≢false}
 use Rattle.std.proofs.lemmas.Slice.Eq.{bytes_eq-Decides}
@@ -20,7 +20,7 @@ use Rattle.pnml_grammar.proofs.ContentLaws.{then_nothing, then_assoc, plus_nothi
 use Rattle.pnml_grammar.proofs.FirstLaws.{is_first}
 use Rattle.pnml_grammar.proofs.RowLaws.{is_outside, MayOpen, open_none, end_none, characters_none, cdata_none}
 
--- no element's children stand around the root
+-- no element's children are around the root
 text_inside : (context : Context) → is_outside (context_of_text context) ≡ false
 text_inside contexts.Name = refl
 text_inside contexts.InitialMarking = refl
@@ -86,13 +86,13 @@ pub record HasRoom (state : State) (height : ℕ) (content : Content) (counts : 
 same_bytes : (bytes : List ℕ) → bytes_eq bytes bytes ≡ true
 same_bytes bytes = (bytes_eq-Decides bytes bytes).1 refl
 
-start_stands : (state : State) (name : List ℕ) (attributes : List Attribute) (children : Nodes) → IsChild state.top.context (element name attributes children)
+start_occurs : (state : State) (name : List ℕ) (attributes : List Attribute) (children : Nodes) → IsChild state.top.context (element name attributes children)
     → HasRoom state (suc (nodes_height children)) (node_content state.top.context (element name attributes children)) (node_counts state.top.context (element name attributes children))
     → MayOpen state false name attributes
-start_stands state name attributes children child room =
+start_occurs state name attributes children child room =
     let inner = context_in state.top.context (element_named name) in
     record {
-      stands = child.0;
+      occurs = child.0;
       first = is_first state.top.context state.top.content (nodes_content inner children) name attributes child.0 room.few child.2.complete;
       room = omega (arith, room.shallow);
       counted = within_front (state.counts plus tag_counts state.top.context name) (nodes_counts inner children)
@@ -100,11 +100,11 @@ start_stands state name attributes children child room =
       whole = λ e. absurd (true≢false (sym e));
     }
 
-empty_stands : (state : State) (name : List ℕ) (attributes : List Attribute) → IsChild state.top.context (empty_element name attributes)
+empty_occurs : (state : State) (name : List ℕ) (attributes : List Attribute) → IsChild state.top.context (empty_element name attributes)
     → HasRoom state 1 (node_content state.top.context (empty_element name attributes)) (node_counts state.top.context (empty_element name attributes))
     → MayOpen state true name attributes
-empty_stands state name attributes child room = record {
-  stands = child.0;
+empty_occurs state name attributes child room = record {
+  occurs = child.0;
   first = is_first state.top.context state.top.content nothing name attributes child.0 room.few child.1.complete;
   room = omega (arith, room.shallow);
   counted = room.counted;
@@ -169,20 +169,20 @@ mutual
       let inner = context_in state.top.context (element_named name) in
       ap (run state) (element_tokens (tokens.Start name attributes) (tokens.End name) (nodes_tokens children) rest)
       ∙ step_on state (tokens.Start name attributes) (nodes_tokens children ++ tokens.End name ∷ rest)
-      (open_none state false name attributes (start_stands state name attributes children child room))
+      (open_none state false name attributes (start_occurs state name attributes children child room))
       ∙ nodes_run children (open_element state name attributes) (tokens.End name ∷ rest) child.1 (children_room state name attributes children child room)
       ∙ end_run state name attributes (nodes_content inner children) (nodes_counts inner children) rest child.2.complete
   node_run (empty_element name attributes) state rest child room =
-      step_on state (tokens.Empty name attributes) rest (open_none state true name attributes (empty_stands state name attributes child room))
+      step_on state (tokens.Empty name attributes) rest (open_none state true name attributes (empty_occurs state name attributes child room))
   node_run comment state rest child room =
       step_on state tokens.Comment rest refl ∙ ap (λ s. run s rest) (sym (more_nothing state))
   node_run instruction state rest child room =
       step_on state tokens.Instruction rest refl ∙ ap (λ s. run s rest) (sym (more_nothing state))
   node_run (cdata value) state rest child room =
-      step_on state (tokens.Cdata value) rest (cdata_none state.top.context state.top.content value (record { stands = child; few = room.few }))
+      step_on state (tokens.Cdata value) rest (cdata_none state.top.context state.top.content value (record { occurs = child; few = room.few }))
       ∙ ap (λ s. run s rest) (put_more state (cdata_content state.top.context value))
   node_run (characters value) state rest child room =
-      step_on state (tokens.Characters value) rest (characters_none state.top.context state.top.content value (record { stands = child; few = room.few }))
+      step_on state (tokens.Characters value) rest (characters_none state.top.context state.top.content value (record { occurs = child; few = room.few }))
       ∙ ap (λ s. run s rest) (put_more state (characters_content state.top.context value))
 
   pub nodes_run : (nodes : Nodes) (state : State) (rest : List Token) → EachChild state.top.context nodes

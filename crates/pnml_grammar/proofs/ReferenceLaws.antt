@@ -1,4 +1,4 @@
--- References: the character that is read from what stands between `&` and `;` is the one that it stands for.
+-- References: the character that is read from what is between `&` and `;` is the one that it represents.
 -- A number that is read digit by digit never falls, so one that passes the characters stays above them.
 use Rattle.std.proofs.Common.{◌≡◌, ℕ, ◌+◌, ◌*◌, ◌<◌, ◌≤◌, true, false, cond, List, [], ◌∷◌, Option, Some, refl, sym, ap, subst, ◌∙◌, arith, inl, inr}
 use Rattle.std.specs.Prelude.{◌==◌, ◌&&◌, nat_le, nat_lt, codes, bytes_eq}
@@ -11,7 +11,7 @@ use Rattle.net_values.specs.Characters.{IsLegalCharacter}
 use Rattle.pnml_grammar.specs.Characters.{Each, is_between}
 use Rattle.pnml_grammar.specs.References.{IsReference, IsNumber}
 use Rattle.pnml_grammar.specs.References.IsReference.{less_than, greater_than, ampersand, apostrophe, quotation, decimal, hexadecimal}
-use Rattle.pnml_grammar.specs.Resolving.{is_legal_character, number_behind, character_numbered, character_named, character_behind_number_sign, referenced, is_reference_byte}
+use Rattle.pnml_grammar.specs.Resolving.{is_legal_character, number_after, character_numbered, character_named, character_after_number_sign, referenced, is_reference_byte}
 use Rattle.pnml_grammar.proofs.RunLaws.{chosen, some_is}
 
 -- ---- legal characters
@@ -57,36 +57,36 @@ module _ (base : ℕ) (grows : (m : ℕ) → m ≤ m * base) where
   value_grows n [] = omega arith
   value_grows n (d ∷ ds) = omega (arith, grows n, value_grows (n * base + digit_value d) ds)
 
-  behind_is : (n c : ℕ) (digits : List ℕ) → AllDigits base digits → digits_value_after base n digits ≡ c → IsLegalCharacter c → number_behind base n digits ≡ Some c
-  behind_is n c [] each value legal = rw (value, legal_is c legal) refl
-  behind_is n c (d ∷ ds) each value legal =
+  after_is : (n c : ℕ) (digits : List ℕ) → AllDigits base digits → digits_value_after base n digits ≡ c → IsLegalCharacter c → number_after base n digits ≡ Some c
+  after_is n c [] each value legal = rw (value, legal_is c legal) refl
+  after_is n c (d ∷ ds) each value legal =
       let small : n * base + digit_value d ≤ 0x10_FFFF = omega (arith, value_grows (n * base + digit_value d) ds, value, legal_bound c legal) in
       let tests : (nat_lt (digit_value d) base && nat_le (n * base + digit_value d) 0x10_FFFF) ≡ true =
       and_from (nat_lt (digit_value d) base) (nat_le (n * base + digit_value d) 0x10_FFFF) (lt-ltb _ _ each.0) (le-leb _ _ small)
       in
-      rw tests (behind_is (n * base + digit_value d) c ds each.1 value legal)
+      rw tests (after_is (n * base + digit_value d) c ds each.1 value legal)
 
-  behind_found : (n c : ℕ) (digits : List ℕ) → number_behind base n digits ≡ Some c → AllDigits base digits × (digits_value_after base n digits ≡ c) × IsLegalCharacter c
-  behind_found n c [] e =
+  after_found : (n c : ℕ) (digits : List ℕ) → number_after base n digits ≡ Some c → AllDigits base digits × (digits_value_after base n digits ≡ c) × IsLegalCharacter c
+  after_found n c [] e =
       let g = chosen (is_legal_character n) (Some n) c e in
       let same : n ≡ c = some_is n c g.1 in
       (tt, same, subst IsLegalCharacter same (legal_found n g.0))
-  behind_found n c (d ∷ ds) e =
-      let g = chosen (nat_lt (digit_value d) base && nat_le (n * base + digit_value d) 0x10_FFFF) (number_behind base (n * base + digit_value d) ds) c e in
+  after_found n c (d ∷ ds) e =
+      let g = chosen (nat_lt (digit_value d) base && nat_le (n * base + digit_value d) 0x10_FFFF) (number_after base (n * base + digit_value d) ds) c e in
       let tests = and_parts (nat_lt (digit_value d) base) (nat_le (n * base + digit_value d) 0x10_FFFF) g.0 in
-      let ih = behind_found (n * base + digit_value d) c ds g.1 in
+      let ih = after_found (n * base + digit_value d) c ds g.1 in
       ((ltb-true _ _ tests.0, ih.0), ih.1, ih.2)
 
   pub numbered_is : (digits : List ℕ) (c : ℕ) → IsNumber base digits c → character_numbered base digits ≡ Some c
   unfolding character_numbered
   numbered_is [] c h = absurd (omega (arith, h.numeral.0))
-  numbered_is (d ∷ ds) c h = behind_is 0 c (d ∷ ds) h.numeral.1 h.value h.legal
+  numbered_is (d ∷ ds) c h = after_is 0 c (d ∷ ds) h.numeral.1 h.value h.legal
 
   pub numbered_found : (digits : List ℕ) (c : ℕ) → character_numbered base digits ≡ Some c → IsNumber base digits c
   unfolding character_numbered
   numbered_found [] c e = absurd cc
   numbered_found (d ∷ ds) c e =
-      let h = behind_found 0 c (d ∷ ds) e in
+      let h = after_found 0 c (d ∷ ds) e in
       record { numeral = (omega arith, h.0); value = h.1; legal = h.2 }
 
 -- ---- any reference
@@ -117,13 +117,13 @@ reference_bytes _ _ (hexadecimal digits c n) = (refl, (refl, digits_are_referenc
 digit_is_no_x : (d : ℕ) → digit_value d < 10 → (d == 120) ≡ false
 digit_is_no_x d h = grind (arith, nat_tests)
 
-decimal_is : (digits : List ℕ) (c : ℕ) → IsNumber 10 digits c → character_behind_number_sign digits ≡ Some c
-unfolding character_behind_number_sign
+decimal_is : (digits : List ℕ) (c : ℕ) → IsNumber 10 digits c → character_after_number_sign digits ≡ Some c
+unfolding character_after_number_sign
 decimal_is [] c n = absurd (omega (arith, n.numeral.0))
 decimal_is (d ∷ ds) c n = rw (digit_is_no_x d n.numeral.1.0) (numbered_is 10 grows_by_ten (d ∷ ds) c n)
 
 pub referenced_is : (body : List ℕ) (c : ℕ) → IsReference body c → referenced body ≡ Some c
-unfolding referenced character_named character_behind_number_sign
+unfolding referenced character_named character_after_number_sign
 referenced_is _ _ less_than = refl
 referenced_is _ _ greater_than = refl
 referenced_is _ _ ampersand = refl
@@ -149,8 +149,8 @@ named_found name c e =
     name_found name (codes "lt") 60 c _ less_than (name_found name (codes "gt") 62 c _ greater_than (name_found name (codes "amp") 38 c _ ampersand
     (name_found name (codes "apos") 39 c _ apostrophe (name_found name (codes "quot") 34 c _ quotation (λ none. absurd cc))))) e
 
-number_found : (bytes : List ℕ) (c : ℕ) → character_behind_number_sign bytes ≡ Some c → IsReference (35 ∷ bytes) c
-unfolding character_behind_number_sign
+number_found : (bytes : List ℕ) (c : ℕ) → character_after_number_sign bytes ≡ Some c → IsReference (35 ∷ bytes) c
+unfolding character_after_number_sign
 number_found [] c e = absurd cc
 number_found (b ∷ bs) c e =
     elim (cases_Bool (b == 120)) [
@@ -166,6 +166,6 @@ referenced_found [] c e = absurd cc
 referenced_found (b ∷ bs) c e =
     elim (cases_Bool (b == 35)) [
       | inl sign ↦
-          rw (eqb-true b 35 sign) (number_found bs c (sym (ap (λ t. cond t (character_behind_number_sign bs) (character_named (b ∷ bs))) sign) ∙ e))
-      | inr other ↦ named_found (b ∷ bs) c (sym (ap (λ t. cond t (character_behind_number_sign bs) (character_named (b ∷ bs))) other) ∙ e)
+          rw (eqb-true b 35 sign) (number_found bs c (sym (ap (λ t. cond t (character_after_number_sign bs) (character_named (b ∷ bs))) sign) ∙ e))
+      | inr other ↦ named_found (b ∷ bs) c (sym (ap (λ t. cond t (character_after_number_sign bs) (character_named (b ∷ bs))) other) ∙ e)
     ]

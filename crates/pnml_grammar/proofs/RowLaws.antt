@@ -1,4 +1,4 @@
--- A token has no reason against it just where it may stand: for each kind of token one law in each direction.
+-- A token has no reason against it just where it may occur: for each kind of token one law in each direction.
 -- The tests are gone through row by row, and the elements and contexts case by case.
 use Rattle.std.proofs.Common.{◌≡◌, ℕ, ◌+◌, ◌≤◌, ◌<◌, inl, inr, refl, sym, ap, ◌∙◌, List, [], ◌∷◌, length, Option, Some, None, Bool, true, false, not, ◌&&◌, ◌||◌, IsTrue, nat_le, is_some, is_none, option_to_list, arith, bytes_eq, true≢false}
 use Rattle.std.proofs.lemmas.Bool.{and_parts, and_from, and_right, or_cases, or_parts, or_from, or_left, not-false, leb-false, lt-leb, ltb-false, le-ltb}
@@ -9,10 +9,10 @@ use Rattle.pnml_grammar.specs.declared.element.Context.TheVariants as contexts
 use Rattle.pnml_grammar.specs.declared.reason.Reason.{Reason}
 use Rattle.pnml_grammar.specs.declared.reason.Reason.TheVariants.{TooDeep}
 use Rattle.pnml_grammar.specs.declared.token.Attribute.{Attribute}
-use Rattle.pnml_grammar.specs.Elements.{element_named, context_in, context_if_any, context_of_kind, may_hold, may_stand, may_stand_as, has_namespace, has_type, has_attributes}
+use Rattle.pnml_grammar.specs.Elements.{element_named, context_in, context_if_any, context_of_kind, may_hold, may_occur, may_occur_as, has_namespace, has_type, has_attributes}
 use Rattle.pnml_grammar.specs.Numerals.{is_white, number_in, number_if_any, numeral}
 use Rattle.pnml_grammar.specs.Characters.{is_space}
-use Rattle.pnml_grammar.specs.Runs.{behind}
+use Rattle.pnml_grammar.specs.Runs.{beyond}
 use Rattle.pnml_grammar.specs.Contents.{Content, nothing, ◌then◌, characters_content, cdata_content}
 use Rattle.pnml_grammar.specs.Counts.{Counts, ◌plus◌, counts_of_kind, counts_if_any, tag_counts, IsWithin}
 use Rattle.pnml_grammar.specs.Documents.{depth_limit, name_limit, HasFew, is_complete, may_have_characters, may_have_cdata}
@@ -89,22 +89,22 @@ if_empty false test e h = absurd (true≢false (sym h))
 
 -- ---- tags
 
--- an element with this tag may stand behind what has stood; an empty one is whole without children
+-- an element with this tag may follow what has occurred; an empty one is whole without children
 pub record MayOpen (state : State) (empty : Bool) (name : List ℕ) (attributes : List Attribute) : Type 0 where
-  pub stands : IsTrue (may_stand state.top.context name attributes)
+  pub occurs : IsTrue (may_occur state.top.context name attributes)
   pub first : second_in state.top.context state.top.content (element_named name) ≡ false
   pub room : length state.under < depth_limit
   pub counted : IsWithin (state.counts plus tag_counts state.top.context name)
   pub whole : empty ≡ true → IsTrue (is_complete (context_in state.top.context (element_named name)) nothing)
 
-tag_none : (state : State) (empty : Bool) (attributes : List Attribute) (element : Option ElementKind) → IsTrue (may_stand_as state.top.context element attributes)
+tag_none : (state : State) (empty : Bool) (attributes : List Attribute) (element : Option ElementKind) → IsTrue (may_occur_as state.top.context element attributes)
     → second_of state.top.context state.top.content element ≡ false → length state.under < depth_limit → IsWithin (state.counts plus counts_if_any element)
     → (empty ≡ true → IsTrue (is_complete (context_if_any state.top.context element) nothing)) → first_row (tag_rows state empty attributes element) ≡ None
 unfolding is_full
-tag_none state empty attributes None stands first room counted whole = absurd (true≢false (sym stands))
-tag_none state empty attributes (Some element) stands first room counted whole =
+tag_none state empty attributes None occurs first room counted whole = absurd (true≢false (sym occurs))
+tag_none state empty attributes (Some element) occurs first room counted whole =
     let context = state.top.context in
-    let held = and_parts _ (may_hold context element) stands in
+    let held = and_parts _ (may_hold context element) occurs in
     let had = and_parts _ (has_attributes element attributes) held.0 in
     let typed = and_parts (has_namespace element attributes) (has_type element attributes) had.0 in
     none_from (tag_rows state empty attributes (Some element)) (
@@ -134,7 +134,7 @@ tag_none state empty attributes (Some element) stands first room counted whole =
     )
 
 tag_passed : (state : State) (empty : Bool) (attributes : List Attribute) (element : Option ElementKind) → IsWithin state.counts → first_row (tag_rows state empty attributes element) ≡ None
-    → IsTrue (may_stand_as state.top.context element attributes) × (second_of state.top.context state.top.content element ≡ false) × (length state.under < depth_limit)
+    → IsTrue (may_occur_as state.top.context element attributes) × (second_of state.top.context state.top.content element ≡ false) × (length state.under < depth_limit)
     × IsWithin (state.counts plus counts_if_any element) × (empty ≡ true → IsTrue (is_complete (context_if_any state.top.context element) nothing))
 unfolding is_full
 tag_passed state empty attributes None within e = absurd (true≢false (pass_from (tag_rows state empty attributes None) e).0)
@@ -155,7 +155,7 @@ tag_passed state empty attributes (Some element) within e =
       λ is. whole_from element context (if_empty empty (is_number_text context element) number.0 is) (if_empty empty (is_pnml element) root.0 is),
     )
 
--- cases on what the tag stands in
+-- cases on what the tag is in
 abbrev state_in : Context → List ℕ → List Attribute → Content → List Frame → Counts → State
 state_in context own mine content under counts =
     record { top = record { context = context; name = own; attributes = mine; content = content }; under = under; counts = counts }
@@ -165,7 +165,7 @@ open_none_in : (context : Context) (own : List ℕ) (mine : List Attribute) (con
 unfolding is_full
 open_none_in contexts.Skipped own mine content under counts empty name attributes may = none_from ((nat_le depth_limit (length under), TooDeep) ∷ []) (lt-leb _ _ may.room, tt)
 open_none_in context own mine content under counts empty name attributes may =
-    tag_none (state_in context own mine content under counts) empty attributes (element_named name) may.stands may.first may.room may.counted may.whole
+    tag_none (state_in context own mine content under counts) empty attributes (element_named name) may.occurs may.first may.room may.counted may.whole
 
 pub open_none : (state : State) (empty : Bool) (name : List ℕ) (attributes : List Attribute) → MayOpen state empty name attributes → first_row (open_rows state empty name attributes) ≡ None
 open_none state empty name attributes may =
@@ -177,10 +177,10 @@ may_open_in : (context : Context) (own : List ℕ) (mine : List Attribute) (cont
 unfolding is_full
 may_open_in contexts.Skipped own mine content under counts empty name attributes within e =
     let room = pass_from ((nat_le depth_limit (length under), TooDeep) ∷ []) e in
-    record { stands = refl; first = refl; room = leb-false _ _ room.0; counted = omega arith; whole = λ is. refl }
+    record { occurs = refl; first = refl; room = leb-false _ _ room.0; counted = omega arith; whole = λ is. refl }
 may_open_in context own mine content under counts empty name attributes within e =
     let all = tag_passed (state_in context own mine content under counts) empty attributes (element_named name) within e in
-    record { stands = all.0; first = all.1; room = all.2; counted = all.3; whole = all.4 }
+    record { occurs = all.0; first = all.1; room = all.2; counted = all.3; whole = all.4 }
 
 pub may_open : (state : State) (empty : Bool) (name : List ℕ) (attributes : List Attribute) → IsWithin state.counts → first_row (open_rows state empty name attributes) ≡ None → MayOpen state empty name attributes
 may_open state empty name attributes within e =
@@ -272,17 +272,17 @@ number_first true found numerals e few = (refl, refl)
 number_first false (Some number) numerals e few = (refl, has_none numerals 1 few (omega arith))
 number_first false None numerals e few = absurd (true≢false (sym e))
 
-white_behind : (value : List ℕ) → is_white value ≡ true → behind is_space value ≡ []
-white_behind [] e = refl
-white_behind (byte ∷ value) e = let parts = and_parts (is_space byte) (is_white value) e in rw parts.0 (white_behind value parts.1)
+white_after : (value : List ℕ) → is_white value ≡ true → beyond is_space value ≡ []
+white_after [] e = refl
+white_after (byte ∷ value) e = let parts = and_parts (is_space byte) (is_white value) e in rw parts.0 (white_after value parts.1)
 
-no_digits : (value : List ℕ) → behind is_space value ≡ [] → numeral value ≡ None
+no_digits : (value : List ℕ) → beyond is_space value ≡ [] → numeral value ≡ None
 unfolding numeral
 no_digits value e = rw e refl
 
 white_no_number : (context : Context) (value : List ℕ) → is_white value ≡ true → number_in context value ≡ None
 unfolding number_in
-white_no_number context value e = ap (number_if_any context) (no_digits value (white_behind value e))
+white_no_number context value e = ap (number_if_any context) (no_digits value (white_after value e))
 
 number_passed : (white : Bool) (found : Option ℕ) (numerals : List ℕ) → (white ≡ true → found ≡ None) → length numerals ≤ 1 → (not white && is_none found) ≡ false
     → (not white && has_some numerals) ≡ false → ((white || is_some found) ≡ true) × (length numerals + length (option_to_list found) ≤ 1)
@@ -291,49 +291,49 @@ number_passed true (Some number) numerals none few one two = let no_number = non
 number_passed false None numerals none few one two = absurd (true≢false one)
 number_passed false (Some number) numerals none few one two = let empty = none_long numerals two in (refl, omega arith)
 
--- characters may stand behind what has stood
-pub record MayStand (standing : Bool) (content more : Content) : Type 0 where
-  pub stands : standing ≡ true
+-- characters may follow what has occurred
+pub record MayOccur (standing : Bool) (content more : Content) : Type 0 where
+  pub occurs : standing ≡ true
   pub few : HasFew (content then more)
 
-pub characters_none : (context : Context) (content : Content) (value : List ℕ) → MayStand (may_have_characters context value) content (characters_content context value)
+pub characters_none : (context : Context) (content : Content) (value : List ℕ) → MayOccur (may_have_characters context value) content (characters_content context value)
     → first_row (characters_rows context content value) ≡ None
 characters_none contexts.NameText content value may = name_none content value (few_parts content (record nothing { bytes = value }) may.few)
 characters_none contexts.MarkingText content value may =
     let parts = few_parts content (characters_content contexts.MarkingText value) may.few in
-    let both = number_first (is_white value) (number_in contexts.MarkingText value) content.numerals may.stands parts.numerals in
+    let both = number_first (is_white value) (number_in contexts.MarkingText value) content.numerals may.occurs parts.numerals in
     none_from (number_rows contexts.MarkingText content value) (both.0, (both.1, tt))
 characters_none contexts.WeightText content value may =
     let parts = few_parts content (characters_content contexts.WeightText value) may.few in
-    let both = number_first (is_white value) (number_in contexts.WeightText value) content.numerals may.stands parts.numerals in
+    let both = number_first (is_white value) (number_in contexts.WeightText value) content.numerals may.occurs parts.numerals in
     none_from (number_rows contexts.WeightText content value) (both.0, (both.1, tt))
 characters_none contexts.Skipped content value may = refl
-characters_none context content value may = none_from (characters_rows context content value) (ap not (white_if_none context value refl may.stands), tt)
+characters_none context content value may = none_from (characters_rows context content value) (ap not (white_if_none context value refl may.occurs), tt)
 
 pub may_characters : (context : Context) (content : Content) (value : List ℕ) → HasFew content → first_row (characters_rows context content value) ≡ None
-    → MayStand (may_have_characters context value) content (characters_content context value)
-may_characters contexts.NameText content value few e = record { stands = refl; few = name_passed content value few e }
+    → MayOccur (may_have_characters context value) content (characters_content context value)
+may_characters contexts.NameText content value few e = record { occurs = refl; few = name_passed content value few e }
 may_characters contexts.MarkingText content value few e =
     let pass = pass_from (number_rows contexts.MarkingText content value) e in
     let both = number_passed (is_white value) (number_in contexts.MarkingText value) content.numerals (white_no_number contexts.MarkingText value) few.numerals pass.0 pass.1.0 in
-    record { stands = both.0; few = few_from content (characters_content contexts.MarkingText value) (omega (arith, both.1)) }
+    record { occurs = both.0; few = few_from content (characters_content contexts.MarkingText value) (omega (arith, both.1)) }
 may_characters contexts.WeightText content value few e =
     let pass = pass_from (number_rows contexts.WeightText content value) e in
     let both = number_passed (is_white value) (number_in contexts.WeightText value) content.numerals (white_no_number contexts.WeightText value) few.numerals pass.0 pass.1.0 in
-    record { stands = both.0; few = few_from content (characters_content contexts.WeightText value) (omega (arith, both.1)) }
-may_characters contexts.Skipped content value few e = record { stands = refl; few = few_same content few }
+    record { occurs = both.0; few = few_from content (characters_content contexts.WeightText value) (omega (arith, both.1)) }
+may_characters contexts.Skipped content value few e = record { occurs = refl; few = few_same content few }
 may_characters context content value few e =
     let pass = pass_from (characters_rows context content value) e in
-    record { stands = or_left (is_white value) (is_some (number_in context value)) (not-false _ pass.0); few = few_same content few }
+    record { occurs = or_left (is_white value) (is_some (number_in context value)) (not-false _ pass.0); few = few_same content few }
 
-pub cdata_none : (context : Context) (content : Content) (value : List ℕ) → MayStand (may_have_cdata context) content (cdata_content context value)
+pub cdata_none : (context : Context) (content : Content) (value : List ℕ) → MayOccur (may_have_cdata context) content (cdata_content context value)
     → first_row (cdata_rows context content value) ≡ None
 cdata_none contexts.NameText content value may = name_none content value (few_parts content (record nothing { bytes = value }) may.few)
 cdata_none contexts.Skipped content value may = refl
-cdata_none context content value may = absurd (true≢false (sym may.stands))
+cdata_none context content value may = absurd (true≢false (sym may.occurs))
 
 pub may_cdata : (context : Context) (content : Content) (value : List ℕ) → HasFew content → first_row (cdata_rows context content value) ≡ None
-    → MayStand (may_have_cdata context) content (cdata_content context value)
-may_cdata contexts.NameText content value few e = record { stands = refl; few = name_passed content value few e }
-may_cdata contexts.Skipped content value few e = record { stands = refl; few = few_same content few }
+    → MayOccur (may_have_cdata context) content (cdata_content context value)
+may_cdata contexts.NameText content value few e = record { occurs = refl; few = name_passed content value few e }
+may_cdata contexts.Skipped content value few e = record { occurs = refl; few = few_same content few }
 may_cdata context content value few e = absurd (true≢false (pass_from (cdata_rows context content value) e).0)

@@ -7,7 +7,7 @@ use Rattle.std.proofs.lemmas.Slice.Eq.{starts_is}
 use Rattle.std.proofs.lemmas.List.{drop_at}
 use Rattle.std.specs.List.{starts_with}
 use Rattle.pnml_grammar.specs.Characters.{Each}
-use Rattle.pnml_grammar.specs.Runs.{◌>>=◌, passed, behind, past, past_text}
+use Rattle.pnml_grammar.specs.Runs.{◌>>=◌, passed, beyond, past, past_text}
 
 pub bind_some : {A B : Type 0} (r : Option A) (f : A → Option B) (y : B) → (r >>= f) ≡ Some y → (x : A) × (r ≡ Some x) × (f x ≡ Some y)
 bind_some None f y e = absurd cc
@@ -30,11 +30,11 @@ some_pair_is {A} {B} a x b y e =
 
 -- ---- runs
 
-pub passed-behind : (p : ℕ → Bool) (xs : List ℕ) → passed p xs ++ behind p xs ≡ xs
-passed-behind p [] = refl
-passed-behind p (x ∷ xs) =
-    elim (p x) as (λ b. cond b (x ∷ passed p xs) [] ++ cond b (behind p xs) (x ∷ xs) ≡ x ∷ xs) [
-      | true ↦ ap (λ (t : List ℕ). x ∷ t) (passed-behind p xs)
+pub passed-beyond : (p : ℕ → Bool) (xs : List ℕ) → passed p xs ++ beyond p xs ≡ xs
+passed-beyond p [] = refl
+passed-beyond p (x ∷ xs) =
+    elim (p x) as (λ b. cond b (x ∷ passed p xs) [] ++ cond b (beyond p xs) (x ∷ xs) ≡ x ∷ xs) [
+      | true ↦ ap (λ (t : List ℕ). x ∷ t) (passed-beyond p xs)
       | false ↦ refl
     ]
 
@@ -55,19 +55,19 @@ stops_step : (p : ℕ → Bool) (x : ℕ) (xs rest : List ℕ) (b : Bool) → p 
 stops_step p x xs rest true e h = h
 stops_step p x xs rest false e h = e
 
-pub behind_stops : (p : ℕ → Bool) (xs : List ℕ) → Stops p (behind p xs)
-behind_stops p [] = tt
-behind_stops p (x ∷ xs) = stops_step p x xs (behind p xs) (p x) refl (behind_stops p xs)
+pub after_stops : (p : ℕ → Bool) (xs : List ℕ) → Stops p (beyond p xs)
+after_stops p [] = tt
+after_stops p (x ∷ xs) = stops_step p x xs (beyond p xs) (p x) refl (after_stops p xs)
 
 pub passed_is : (p : ℕ → Bool) (xs rest : List ℕ) → Each p xs → Stops p rest → passed p (xs ++ rest) ≡ xs
 passed_is p [] [] each stops = refl
 passed_is p [] (r ∷ rest) each stops = rw stops refl
 passed_is p (x ∷ xs) rest each stops = rw each.0 (ap (λ (t : List ℕ). x ∷ t) (passed_is p xs rest each.1 stops))
 
-pub behind_is : (p : ℕ → Bool) (xs rest : List ℕ) → Each p xs → Stops p rest → behind p (xs ++ rest) ≡ rest
-behind_is p [] [] each stops = refl
-behind_is p [] (r ∷ rest) each stops = rw stops refl
-behind_is p (x ∷ xs) rest each stops = rw each.0 (behind_is p xs rest each.1 stops)
+pub after_is : (p : ℕ → Bool) (xs rest : List ℕ) → Each p xs → Stops p rest → beyond p (xs ++ rest) ≡ rest
+after_is p [] [] each stops = refl
+after_is p [] (r ∷ rest) each stops = rw stops refl
+after_is p (x ∷ xs) rest each stops = rw each.0 (after_is p xs rest each.1 stops)
 
 -- ---- one byte, and a text
 

@@ -8,7 +8,7 @@ use Rattle.pnml_grammar.specs.Attributes.{Written, written, IsWritten}
 use Rattle.pnml_grammar.specs.Tokens.{IsSpelling, MayFollow}
 use Rattle.std.proofs.Common.{length, ◌≤◌, arith}
 use Rattle.pnml_grammar.proofs.RunLaws.{Stops}
-use Rattle.pnml_grammar.proofs.SettingLaws.{space_then}
+use Rattle.pnml_grammar.proofs.RawAttributeLaws.{space_then}
 
 pub record ShapeFound (bytes : List ℕ) (token : Token) (rest : List ℕ) : Type 0 where
   pub spelling : List ℕ

@@ -1,6 +1,6 @@
--- What is read stands for open elements: behind tokens that have been read there are elements that are open,
--- each of which may stand where it does, and in each of them whole children that may stand there. Each token
--- adds a child, opens an element or closes the innermost one, by the test that no reason stands against it.
+-- What is read represents open elements: after tokens that have been read there are elements that are open,
+-- each of which may occur where it does, and in each of them whole children that may occur there. Each token
+-- adds a child, opens an element or closes the innermost one, by the test that no reason occurs against it.
 use Rattle.std.proofs.Common.{◌≡◌, ℕ, suc, ◌+◌, ◌≤◌, refl, sym, ap, subst, ◌∙◌, List, [], ◌∷◌, ◌++◌, append_assoc, append-nil, length, Option, Some, None, Bool, true, false, IsTrue, is_none, arith, true≢false}
 use Rattle.std.proofs.lemmas.Slice.Eq.{bytes_eq-Decides}
 use Rattle.pnml_grammar.specs.declared.element.Context.{Context}
@@ -9,21 +9,21 @@ use Rattle.pnml_grammar.specs.declared.reason.Reason.{Reason}
 use Rattle.pnml_grammar.specs.declared.token.Token.{Token}
 use Rattle.pnml_grammar.specs.declared.token.Token.TheVariants as tokens
 use Rattle.pnml_grammar.specs.declared.token.Attribute.{Attribute}
-use Rattle.pnml_grammar.specs.Elements.{element_named, context_in, may_stand}
+use Rattle.pnml_grammar.specs.Elements.{element_named, context_in, may_occur}
 use Rattle.pnml_grammar.specs.Trees.{Node, element, empty_element, comment, instruction, cdata, characters, Nodes, none, node_tokens, nodes_tokens, node_height, nodes_height}
 use Rattle.pnml_grammar.specs.Contents.{nothing, ◌then◌, node_content, nodes_content, cdata_content, characters_content}
 use Rattle.pnml_grammar.specs.Counts.{no_counts, ◌plus◌, tag_counts, node_counts, nodes_counts, IsWithin}
 use Rattle.pnml_grammar.specs.Documents.{depth_limit, HasFew, is_complete, IsChild, EachChild, opening}
-use Rattle.pnml_grammar.specs.Machine.{Frame, State, run, step, next, reason_of, behind_declaration, reached}
-use Rattle.pnml_grammar.specs.FirstFault.{Opened, Spot, IsBehind, opened_tokens, frame_of, frames_around, state_of}
+use Rattle.pnml_grammar.specs.Machine.{Frame, State, run, step, next, reason_of, after_declaration, reached}
+use Rattle.pnml_grammar.specs.FirstFault.{Opened, Spot, IsAfter, opened_tokens, frame_of, frames_around, state_of}
 use Rattle.pnml_grammar.proofs.RunLaws.{bind_some, chosen, some_is}
 use Rattle.pnml_grammar.proofs.ContentLaws.{plus_nothing, few_nothing, within_front}
-use Rattle.pnml_grammar.proofs.FirstLaws.{second_in, few_behind, few_same}
+use Rattle.pnml_grammar.proofs.FirstLaws.{second_in, few_after, few_same}
 use Rattle.pnml_grammar.proofs.RowLaws.{may_open, may_end, may_characters, may_cdata}
 use Rattle.pnml_grammar.proofs.ReadingTrees.{with_more, more_nothing, put_more}
 use Rattle.pnml_grammar.proofs.LastNodes.{with_last, last_content, last_each, last_height, opened_with, outside_with, spot_with, with_tokens, with_state}
 
--- ---- what stands in open elements
+-- ---- what is in open elements
 
 -- the children of an element that has so many elements open around them
 pub record Hold (context : Context) (depth : ℕ) (nodes : Nodes) : Type 0 where
@@ -31,9 +31,9 @@ pub record Hold (context : Context) (depth : ℕ) (nodes : Nodes) : Type 0 where
   pub few : HasFew (nodes_content context nodes)
   pub shallow : depth + nodes_height nodes ≤ depth_limit
 
--- an element may stand in the one around it, behind its children so far
+-- an element may occur in the one around it, after its children so far
 pub record Fits (around : Frame) (name : List ℕ) (attributes : List Attribute) : Type 0 where
-  pub stands : IsTrue (may_stand around.context name attributes)
+  pub occurs : IsTrue (may_occur around.context name attributes)
   pub first : second_in around.context around.content (element_named name) ≡ false
 
 abbrev pub AllHold : List Opened → Nodes → Type 0
@@ -42,7 +42,7 @@ AllHold (inner ∷ outer) outside =
     AllHold outer outside × Fits (frame_of outer outside) inner.name inner.attributes
     × Hold (context_in (frame_of outer outside).context (element_named inner.name)) (length (inner ∷ outer)) inner.children
 
--- what has stood so far may stand
+-- what has occurred so far may occur
 pub record IsSound (spot : Spot) : Type 0 where
   pub hold : AllHold spot.opened spot.outside
   pub counted : IsWithin (state_of spot).counts
@@ -72,7 +72,7 @@ with_hold [] outside node hold child few shallow = more_hold contexts.Document 0
 with_hold (inner ∷ outer) outside node hold child few shallow =
     (hold.0, hold.1, more_hold (context_in (frame_of outer outside).context (element_named inner.name)) (length (inner ∷ outer)) inner.children node hold.2 child few shallow)
 
--- a child may stand in the innermost open element
+-- a child may occur in the innermost open element
 pub record Takes (spot : Spot) (node : Node) : Type 0 where
   pub child : IsChild (state_of spot).top.context node
   pub few : HasFew ((state_of spot).top.content then node_content (state_of spot).top.context node)
@@ -131,14 +131,14 @@ cdata_after : (spot : Spot) (value : List ℕ) → IsSound spot → reason_of (s
 cdata_after spot value sound e =
     let top = (state_of spot).top in
     let may = may_cdata top.context top.content value (holds_few spot.opened spot.outside sound.hold) e in
-    child_after spot (tokens.Cdata value) (cdata value) refl sound (takes_flat spot (cdata value) refl refl sound may.stands may.few)
+    child_after spot (tokens.Cdata value) (cdata value) refl sound (takes_flat spot (cdata value) refl refl sound may.occurs may.few)
     (sym (put_more (state_of spot) (cdata_content top.context value)))
 
 characters_after : (spot : Spot) (value : List ℕ) → IsSound spot → reason_of (state_of spot) (tokens.Characters value) ≡ None → After spot (tokens.Characters value)
 characters_after spot value sound e =
     let top = (state_of spot).top in
     let may = may_characters top.context top.content value (holds_few spot.opened spot.outside sound.hold) e in
-    child_after spot (tokens.Characters value) (characters value) refl sound (takes_flat spot (characters value) refl refl sound may.stands may.few)
+    child_after spot (tokens.Characters value) (characters value) refl sound (takes_flat spot (characters value) refl refl sound may.occurs may.few)
     (sym (put_more (state_of spot) (characters_content top.context value)))
 
 -- a tag
@@ -148,8 +148,8 @@ empty_after spot name attributes sound e =
     let may = may_open (state_of spot) true name attributes sound.counted e in
     child_after spot (tokens.Empty name attributes) (empty_element name attributes) refl sound
     (record {
-      child = (may.stands, record { few = few_nothing; complete = may.whole refl });
-      few = few_behind top.context top.content nothing name attributes (holds_few spot.opened spot.outside sound.hold) few_nothing may.first;
+      child = (may.occurs, record { few = few_nothing; complete = may.whole refl });
+      few = few_after top.context top.content nothing name attributes (holds_few spot.opened spot.outside sound.hold) few_nothing may.first;
       shallow = omega (arith, may.room, frames_long spot.opened spot.outside);
       counted = may.counted;
     })
@@ -167,7 +167,7 @@ start_after spot name attributes sound e =
       sound = record {
         hold = (
           sound.hold,
-          record { stands = may.stands; first = may.first },
+          record { occurs = may.occurs; first = may.first },
           record { each = tt; few = few_nothing; shallow = omega (arith, may.room, frames_long spot.opened spot.outside) },
         );
         counted = subst IsWithin (sym counts) may.counted;
@@ -198,8 +198,8 @@ takes_closed spot inner sound complete =
     let content = nodes_content (context_in top.context (element_named inner.name)) inner.children in
     let hold = sound.hold in
     record {
-      child = (hold.1.stands, hold.2.each, record { few = hold.2.few; complete = complete });
-      few = few_behind top.context top.content content inner.name inner.attributes (holds_few spot.opened spot.outside hold.0) hold.2.few hold.1.first;
+      child = (hold.1.occurs, hold.2.each, record { few = hold.2.few; complete = complete });
+      few = few_after top.context top.content content inner.name inner.attributes (holds_few spot.opened spot.outside hold.0) hold.2.few hold.1.first;
       shallow = omega (arith, hold.2.shallow);
       counted = sound.counted;
     }
@@ -227,7 +227,7 @@ end_after declared (inner ∷ outer) outside name sound e =
       declared = refl;
     }
 
--- a token against which no reason stands
+-- a token against which no reason occurs
 pub token_after : (spot : Spot) (token : Token) → IsSound spot → reason_of (state_of spot) token ≡ None → After spot token
 token_after spot tokens.Declaration sound e = absurd cc
 token_after spot tokens.Comment sound e = trivia_after spot tokens.Comment comment refl refl refl tt refl refl sound
@@ -281,7 +281,7 @@ run_spot (token ∷ list) spot state sound e =
     }
 
 -- a declaration in front is that of the spot
-declaration_first : (list : List Token) → (declared : Bool) × (list ≡ opening declared ++ behind_declaration list)
+declaration_first : (list : List Token) → (declared : Bool) × (list ≡ opening declared ++ after_declaration list)
 declaration_first [] = (false, refl)
 declaration_first (tokens.Declaration ∷ list) = (true, refl)
 declaration_first (token ∷ list) = (false, refl)
@@ -292,21 +292,21 @@ nothing_sound declared = record {
   counted = omega arith;
 }
 
--- tokens lead to what the elements tell that are open behind them, and all in these may stand where it does
-pub record StandsFor (list : List Token) (state : State) : Type 0 where
+-- tokens lead to what the elements tell that are open after them, and all in these may occur where it does
+pub record Represents (list : List Token) (state : State) : Type 0 where
   pub spot : Spot
-  pub behind : IsBehind spot list
+  pub beyond : IsAfter spot list
   pub leads : state_of spot ≡ state
   pub sound : IsSound spot
 
-pub reached_stands : (list : List Token) (state : State) → reached list ≡ Some state → StandsFor list state
+pub reached_occurs : (list : List Token) (state : State) → reached list ≡ Some state → Represents list state
 unfolding reached
-reached_stands list state e =
+reached_occurs list state e =
     let front = declaration_first list in
-    let reaches = run_spot (behind_declaration list) (record { declared = front.0; opened = []; outside = none }) state (nothing_sound front.0) e in
+    let reaches = run_spot (after_declaration list) (record { declared = front.0; opened = []; outside = none }) state (nothing_sound front.0) e in
     record {
       spot = reaches.end;
-      behind = front.1 ∙ (λ i. opening (sym reaches.declared i) ++ sym reaches.tokens_are i);
+      beyond = front.1 ∙ (λ i. opening (sym reaches.declared i) ++ sym reaches.tokens_are i);
       leads = reaches.leads;
       sound = reaches.sound;
     }

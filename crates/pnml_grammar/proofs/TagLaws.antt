@@ -10,15 +10,15 @@ use Rattle.pnml_grammar.specs.declared.token.Token.TheVariants.{Start, Empty, En
 use Rattle.pnml_grammar.specs.Characters.{is_space}
 use Rattle.pnml_grammar.specs.Names.{IsName, is_name_start, is_name_byte}
 use Rattle.pnml_grammar.specs.Attributes.{written}
-use Rattle.pnml_grammar.specs.Declarations.{Setting, setting}
+use Rattle.pnml_grammar.specs.Declarations.{RawAttribute, raw_attribute}
 use Rattle.pnml_grammar.specs.Tags.{IsTag, IsEndTag}
 use Rattle.pnml_grammar.specs.Tokens.{IsSpelling, MayFollow}
-use Rattle.pnml_grammar.specs.Runs.{◌>>=◌, passed, behind, past, past_text}
+use Rattle.pnml_grammar.specs.Runs.{◌>>=◌, passed, beyond, past, past_text}
 use Rattle.pnml_grammar.specs.Resolving.{text_of}
-use Rattle.pnml_grammar.specs.Reading.{name_at, all_settings_at, distinct_attributes_of, tag_closed, tag_at, end_tag_at, markup_at, shape_at}
-use Rattle.pnml_grammar.proofs.RunLaws.{bind_some, chosen, some_pair_is, passed-behind, passed_each, behind_is, past_found}
+use Rattle.pnml_grammar.specs.Reading.{name_at, all_raw_attributes_at, distinct_attributes_of, tag_closed, tag_at, end_tag_at, markup_at, shape_at}
+use Rattle.pnml_grammar.proofs.RunLaws.{bind_some, chosen, some_pair_is, passed-beyond, passed_each, after_is, past_found}
 use Rattle.pnml_grammar.proofs.TextLaws.{text_again, text_found, utf8_split, utf8_past, space_begins}
-use Rattle.pnml_grammar.proofs.SettingLaws.{space_then, name_again, name_found, all_settings_again, settings_found, no_setting}
+use Rattle.pnml_grammar.proofs.RawAttributeLaws.{space_then, name_again, name_found, all_raw_attributes_again, raw_attributes_found, no_raw_attribute}
 use Rattle.pnml_grammar.proofs.AttributeLaws.{writtens_texts, writtens_begin, distinct_again, distinct_found}
 use Rattle.pnml_grammar.proofs.ShapeLaws.{ShapeFound, writtens_stop}
 
@@ -39,10 +39,10 @@ markup_name (b ∷ bs) t is =
     let p = name_begins b is.0 in
     markup_made (b ∷ (bs ++ t)) (rw p.0 refl) (rw p.0 refl) (rw p.1 refl) (rw p.2 refl)
 
-pub tag_made : (bytes name t0 : List ℕ) (settings : List Setting) (t1 text : List ℕ) (attributes : List Attribute) (t2 : List ℕ) (found : Option (Token × List ℕ)) → name_at bytes ≡ Some (name, t0) → text_of name ≡ Some text
-    → all_settings_at t0 ≡ (settings, t1) → distinct_attributes_of settings ≡ Some attributes → behind is_space t1 ≡ t2 → tag_closed text attributes t2 ≡ found → tag_at bytes ≡ found
+pub tag_made : (bytes name t0 : List ℕ) (raw_attributes : List RawAttribute) (t1 text : List ℕ) (attributes : List Attribute) (t2 : List ℕ) (found : Option (Token × List ℕ)) → name_at bytes ≡ Some (name, t0) → text_of name ≡ Some text
+    → all_raw_attributes_at t0 ≡ (raw_attributes, t1) → distinct_attributes_of raw_attributes ≡ Some attributes → beyond is_space t1 ≡ t2 → tag_closed text attributes t2 ≡ found → tag_at bytes ≡ found
 unfolding tag_at
-tag_made bytes name t0 settings t1 text attributes t2 found e0 e1 e2 e3 e4 e5 = rw (e0, e1, e2, e3, e4) e5
+tag_made bytes name t0 raw_attributes t1 text attributes t2 found e0 e1 e2 e3 e4 e5 = rw (e0, e1, e2, e3, e4) e5
 
 -- the first byte of what closes a tag
 pub record Closes (c : ℕ) : Type 0 where
@@ -71,12 +71,12 @@ tag_again c cs name attributes token bytes rest closes closed tag text =
     ∙ ap shape_at (tag_parts name ws tag.gap (c ∷ cs) rest)
     ∙ open_tag (name ++ t0)
     ∙ markup_name name t0 tag.named
-    ∙ tag_made (name ++ t0) name t0 (map setting tag.writtens) (tag.gap ++ end) name attributes end (Some (token, rest))
+    ∙ tag_made (name ++ t0) name t0 (map raw_attribute tag.writtens) (tag.gap ++ end) name attributes end (Some (token, rest))
     (name_again name t0 tag.named (writtens_stop tag.writtens (tag.gap ++ end) tag.each (space_then tag.gap end tag.space closes.name)))
     (text_again name named.0)
-    (all_settings_again tag.writtens (tag.gap ++ end) tag.each (no_setting tag.gap c (cs ++ rest) tag.space closes.space closes.start))
+    (all_raw_attributes_again tag.writtens (tag.gap ++ end) tag.each (no_raw_attribute tag.gap c (cs ++ rest) tag.space closes.space closes.start))
     (distinct_again tag.writtens attributes texts.0 tag.are tag.distinct)
-    (behind_is is_space tag.gap end tag.space closes.space)
+    (after_is is_space tag.gap end tag.space closes.space)
     closed
 
 closes_greater : Closes 62
@@ -147,17 +147,17 @@ tag_found bytes token rest e =
     let name = a.0.0 in
     let t0 = a.0.1 in
     let b = bind_some (text_of name) _ (token, rest) a.2 in
-    let c = bind_some (distinct_attributes_of (all_settings_at t0).0) _ (token, rest) b.2 in
-    let t1 = (all_settings_at t0).1 in
-    let closed = closed_found b.0 c.0 (behind is_space t1) token rest c.2 in
+    let c = bind_some (distinct_attributes_of (all_raw_attributes_at t0).0) _ (token, rest) b.2 in
+    let t1 = (all_raw_attributes_at t0).1 in
+    let closed = closed_found b.0 c.0 (beyond is_space t1) token rest c.2 in
     let named = name_found bytes name t0 a.1 in
-    let settings = settings_found (suc (length t0)) t0 in
-    let attributes = distinct_found settings.writtens c.0 (ap distinct_attributes_of settings.give ∙ c.1) in
-    let spelling = 60 ∷ (name ++ (flat_map written settings.writtens ++ (passed is_space t1 ++ closed.close))) in
+    let raw_attributes = raw_attributes_found (suc (length t0)) t0 in
+    let attributes = distinct_found raw_attributes.writtens c.0 (ap distinct_attributes_of raw_attributes.give ∙ c.1) in
+    let spelling = 60 ∷ (name ++ (flat_map written raw_attributes.writtens ++ (passed is_space t1 ++ closed.close))) in
     let tag : IsTag closed.close name c.0 spelling = record {
       named = named.is;
-      writtens = settings.writtens;
-      each = settings.each;
+      writtens = raw_attributes.writtens;
+      each = raw_attributes.each;
       are = attributes.0;
       distinct = attributes.1;
       gap = passed is_space t1;
@@ -167,15 +167,15 @@ tag_found bytes token rest e =
     let tag_b : IsTag closed.close b.0 c.0 spelling = subst (λ n. IsTag closed.close n c.0 spelling) (text_found name b.0 b.1) tag in
     record {
       spelling = spelling;
-      parts = found_parts bytes name t0 (flat_map written settings.writtens) t1 (passed is_space t1) (behind is_space t1) closed.close rest
-          named.parts settings.parts (sym (passed-behind is_space t1)) closed.parts;
+      parts = found_parts bytes name t0 (flat_map written raw_attributes.writtens) t1 (passed is_space t1) (beyond is_space t1) closed.close rest
+          named.parts raw_attributes.parts (sym (passed-beyond is_space t1)) closed.parts;
       spells = closed.spells spelling tag_b;
       follows = closed.follows;
     }
 
 -- ---- end tags
 
-end_made : (bytes name t0 t1 text rest : List ℕ) → name_at bytes ≡ Some (name, t0) → text_of name ≡ Some text → behind is_space t0 ≡ t1 → past 62 t1 ≡ Some rest
+end_made : (bytes name t0 t1 text rest : List ℕ) → name_at bytes ≡ Some (name, t0) → text_of name ≡ Some text → beyond is_space t0 ≡ t1 → past 62 t1 ≡ Some rest
     → end_tag_at bytes ≡ Some (End text, rest)
 unfolding end_tag_at
 end_made bytes name t0 t1 text rest e0 e1 e2 e3 = rw (e0, e1, e2, e3) refl
@@ -203,7 +203,7 @@ end_again name bytes rest tag text =
     ∙ end_made (name ++ t0) name t0 (62 ∷ rest) name rest
     (name_again name t0 tag.named (space_then tag.gap (62 ∷ rest) tag.space refl))
     (text_again name named.0)
-    (behind_is is_space tag.gap (62 ∷ rest) tag.space refl)
+    (after_is is_space tag.gap (62 ∷ rest) tag.space refl)
     refl
 
 end_found_parts : (bytes name t0 gap t1 rest : List ℕ) → bytes ≡ name ++ t0 → t0 ≡ gap ++ t1 → t1 ≡ 62 ∷ rest
@@ -217,14 +217,14 @@ end_found bytes token rest e =
     let name = a.0.0 in
     let t0 = a.0.1 in
     let b = bind_some (text_of name) _ (token, rest) a.2 in
-    let c = bind_some (past 62 (behind is_space t0)) _ (token, rest) b.2 in
+    let c = bind_some (past 62 (beyond is_space t0)) _ (token, rest) b.2 in
     let p = some_pair_is (End b.0) token c.0 rest c.2 in
     let named = name_found bytes name t0 a.1 in
     let spelling = codes "</" ++ (name ++ (passed is_space t0 ++ (62 ∷ []))) in
     let tag : IsEndTag name spelling = record { named = named.is; gap = passed is_space t0; space = passed_each is_space t0; spelling = refl } in
     let here : ShapeFound (60 ∷ 47 ∷ bytes) (End b.0) c.0 = record {
       spelling = spelling;
-      parts = end_found_parts bytes name t0 (passed is_space t0) (behind is_space t0) c.0 named.parts (sym (passed-behind is_space t0)) (past_found 62 (behind is_space t0) c.0 c.1);
+      parts = end_found_parts bytes name t0 (passed is_space t0) (beyond is_space t0) c.0 named.parts (sym (passed-beyond is_space t0)) (past_found 62 (beyond is_space t0) c.0 c.1);
       spells = subst (λ n. IsEndTag n spelling) (text_found name b.0 b.1) tag;
       follows = tt;
     } in

@@ -75,6 +75,6 @@ pub space_begins : (xs ys : List ℕ) → Each is_space xs → BeginsAscii ys �
 space_begins [] ys each ascii = ascii
 space_begins (x ∷ xs) ys each ascii = space_is_ascii x each.0
 
-pub utf8_behind_space : (xs ys : List ℕ) → Each is_space xs → IsUtf8 (xs ++ ys) → IsUtf8 ys
-utf8_behind_space [] ys each h = h
-utf8_behind_space (x ∷ xs) ys each h = utf8_behind_space xs ys each.1 (utf8_past x (xs ++ ys) (space_is_ascii x each.0) h)
+pub utf8_after_space : (xs ys : List ℕ) → Each is_space xs → IsUtf8 (xs ++ ys) → IsUtf8 ys
+utf8_after_space [] ys each h = h
+utf8_after_space (x ∷ xs) ys each h = utf8_after_space xs ys each.1 (utf8_past x (xs ++ ys) (space_is_ascii x each.0) h)

@@ -1,4 +1,4 @@
--- Any token: it stands at the front just where it is read there. So two tokens that stand at one offset are
+-- Any token: it occurs at the front just where it is read there. So two tokens that occur at one offset are
 -- what one function reads there.
 use Rattle.std.proofs.Common.{◌≡◌, ℕ, ◌-◌, ◌≤◌, true, false, cond, List, [], ◌∷◌, ◌++◌, Option, Some, None, refl, sym, ap, subst, ◌∙◌, arith, inl, inr, length, drop, length-append}
 use Rattle.std.specs.Prelude.{◌==◌, nat_le, codes, is_none, IsUtf8}
@@ -8,11 +8,11 @@ use Rattle.net_values.specs.Characters.{IsLegalText}
 use Rattle.pnml_grammar.specs.declared.token.Token.{Token}
 use Rattle.pnml_grammar.specs.declared.token.Token.TheVariants.{Declaration, Comment, Instruction, Cdata, Start, Empty, End, Characters}
 use Rattle.pnml_grammar.specs.Characters.{Each}
-use Rattle.pnml_grammar.specs.Tokens.{IsSpelling, IsCharacters, is_text_byte, IsTextEnd, MayFollow, Stands, HasOneToken, spelling_limit}
-use Rattle.pnml_grammar.specs.Runs.{passed, behind, past, past_text, until}
+use Rattle.pnml_grammar.specs.Tokens.{IsSpelling, IsCharacters, is_text_byte, IsTextEnd, MayFollow, Occurs, HasOneToken, spelling_limit}
+use Rattle.pnml_grammar.specs.Runs.{passed, beyond, past, past_text, until}
 use Rattle.pnml_grammar.specs.Resolving.{value_of}
-use Rattle.pnml_grammar.specs.Reading.{comment_at, cdata_at, instruction_at, end_tag_at, characters_at, behind_or, markup_at, shape_at, is_legal, before_rest, is_spelling, token_from}
-use Rattle.pnml_grammar.proofs.RunLaws.{bind_some, chosen, some_pair_is, Stops, passed-behind, passed_each, passed_is, behind_is, behind_stops, past_found, past_text_found}
+use Rattle.pnml_grammar.specs.Reading.{comment_at, cdata_at, instruction_at, end_tag_at, characters_at, after_or, markup_at, shape_at, is_legal, before_rest, is_spelling, token_from}
+use Rattle.pnml_grammar.proofs.RunLaws.{bind_some, chosen, some_pair_is, Stops, passed-beyond, passed_each, passed_is, after_is, after_stops, past_found, past_text_found}
 use Rattle.pnml_grammar.proofs.PartLaws.{until_none, none_without}
 use Rattle.pnml_grammar.proofs.TextLaws.{legal_utf8, is_legal_is, is_legal_found}
 use Rattle.pnml_grammar.proofs.AttributeLaws.{value_again, value_found}
@@ -30,7 +30,7 @@ stops_end : (rest : List ℕ) → Stops is_text_byte rest → IsTextEnd rest
 stops_end [] stops = tt
 stops_end (b ∷ bs) stops = eqb-true b 60 (elim (cases_Bool (b == 60)) [ inl same ↦ same | inr other ↦ absurd (true≢false (sym (rw other refl) ∙ stops)) ])
 
-characters_made : (bytes run value rest : List ℕ) → passed is_text_byte bytes ≡ run → behind is_text_byte bytes ≡ rest → value_of false run ≡ Some value → until (codes "]]>") run ≡ None
+characters_made : (bytes run value rest : List ℕ) → passed is_text_byte bytes ≡ run → beyond is_text_byte bytes ≡ rest → value_of false run ≡ Some value → until (codes "]]>") run ≡ None
     → characters_at bytes ≡ Some (Characters value, rest)
 unfolding characters_at
 characters_made bytes run value rest e0 e1 e2 e3 = rw (e0, e1, e2, e3) refl
@@ -48,7 +48,7 @@ characters_again value bytes rest is text ends =
     first_byte bytes rest is.some is.each
     ∙ characters_made (bytes ++ rest) bytes value rest
     (passed_is is_text_byte bytes rest is.each (end_stops rest ends))
-    (behind_is is_text_byte bytes rest is.each (end_stops rest ends))
+    (after_is is_text_byte bytes rest is.each (end_stops rest ends))
     (value_again false bytes value text is.means)
     (until_none (codes "]]>") bytes is.without)
 
@@ -65,18 +65,18 @@ characters_found b bs token rest first e =
     let bytes = b ∷ bs in
     let run = passed is_text_byte bytes in
     let a = bind_some (value_of false run) _ (token, rest) e in
-    let g = chosen (is_none (until (codes "]]>") run)) (Some (Characters a.0, behind is_text_byte bytes)) (token, rest) a.2 in
-    let p = some_pair_is (Characters a.0) token (behind is_text_byte bytes) rest g.1 in
-    let here : ShapeFound bytes (Characters a.0) (behind is_text_byte bytes) = record {
+    let g = chosen (is_none (until (codes "]]>") run)) (Some (Characters a.0, beyond is_text_byte bytes)) (token, rest) a.2 in
+    let p = some_pair_is (Characters a.0) token (beyond is_text_byte bytes) rest g.1 in
+    let here : ShapeFound bytes (Characters a.0) (beyond is_text_byte bytes) = record {
       spelling = run;
-      parts = sym (passed-behind is_text_byte bytes);
+      parts = sym (passed-beyond is_text_byte bytes);
       spells = record {
         some = some_passed b bs first;
         each = passed_each is_text_byte bytes;
         without = none_without (codes "]]>") run (none_is (until (codes "]]>") run) g.0);
         means = value_found false run a.0 a.1;
       };
-      follows = stops_end (behind is_text_byte bytes) (behind_stops is_text_byte bytes);
+      follows = stops_end (beyond is_text_byte bytes) (after_stops is_text_byte bytes);
     } in
     subst (λ t. ShapeFound bytes t rest) p.0 (subst (λ r. ShapeFound bytes (Characters a.0) r) p.1 here)
 
@@ -93,22 +93,22 @@ shape_again (End name) spelling rest is text follows = end_again name spelling r
 shape_again (Characters value) spelling rest is text follows = characters_again value spelling rest is text follows
 
 -- a way that was taken, or the others
-behind_found : (o : Option (List ℕ)) (way : List ℕ → Option (Token × List ℕ)) (other : Option (Token × List ℕ)) (bytes : List ℕ) (token : Token) (rest : List ℕ)
+after_found : (o : Option (List ℕ)) (way : List ℕ → Option (Token × List ℕ)) (other : Option (Token × List ℕ)) (bytes : List ℕ) (token : Token) (rest : List ℕ)
     → ((t : List ℕ) → o ≡ Some t → way t ≡ Some (token, rest) → ShapeFound bytes token rest) → (other ≡ Some (token, rest) → ShapeFound bytes token rest)
-    → behind_or o way other ≡ Some (token, rest) → ShapeFound bytes token rest
-behind_found None way other bytes token rest taken left e = left e
-behind_found (Some t) way other bytes token rest taken left e = taken t refl e
+    → after_or o way other ≡ Some (token, rest) → ShapeFound bytes token rest
+after_found None way other bytes token rest taken left e = left e
+after_found (Some t) way other bytes token rest taken left e = taken t refl e
 
 markup_found : (bytes : List ℕ) (token : Token) (rest : List ℕ) → markup_at bytes ≡ Some (token, rest) → ShapeFound (60 ∷ bytes) token rest
 unfolding markup_at
 markup_found bytes token rest e =
-    behind_found (past_text (codes "!--") bytes) comment_at _ (60 ∷ bytes) token rest
+    after_found (past_text (codes "!--") bytes) comment_at _ (60 ∷ bytes) token rest
     (λ t is way. subst (λ (u : List ℕ). ShapeFound (60 ∷ u) token rest) (sym (past_text_found (codes "!--") bytes t is)) (comment_found t token rest way))
-    (behind_found (past_text (codes "![CDATA[") bytes) cdata_at _ (60 ∷ bytes) token rest
+    (after_found (past_text (codes "![CDATA[") bytes) cdata_at _ (60 ∷ bytes) token rest
     (λ t is way. subst (λ (u : List ℕ). ShapeFound (60 ∷ u) token rest) (sym (past_text_found (codes "![CDATA[") bytes t is)) (cdata_found t token rest way))
-    (behind_found (past 63 bytes) instruction_at _ (60 ∷ bytes) token rest
+    (after_found (past 63 bytes) instruction_at _ (60 ∷ bytes) token rest
     (λ t is way. subst (λ (u : List ℕ). ShapeFound (60 ∷ u) token rest) (sym (past_found 63 bytes t is)) (instruction_found t token rest way))
-    (behind_found (past 47 bytes) end_tag_at _ (60 ∷ bytes) token rest
+    (after_found (past 47 bytes) end_tag_at _ (60 ∷ bytes) token rest
     (λ t is way. subst (λ (u : List ℕ). ShapeFound (60 ∷ u) token rest) (sym (past_found 47 bytes t is)) (end_found t token rest way))
     (tag_found bytes token rest)))) e
 
@@ -134,17 +134,17 @@ token_made : (bytes : List ℕ) (token : Token) (spelling rest : List ℕ) → s
 unfolding token_from
 token_made bytes token spelling rest e0 e1 e2 = rw (e0, e1, e2) refl
 
--- a token that stands is read
-pub token_is : (bytes : List ℕ) (token : Token) (spelling rest : List ℕ) → Stands bytes token spelling rest → token_from bytes ≡ Some (token, rest)
-token_is bytes token spelling rest stands =
-    ap token_from stands.parts
+-- a token that occurs is read
+pub token_is : (bytes : List ℕ) (token : Token) (spelling rest : List ℕ) → Occurs bytes token spelling rest → token_from bytes ≡ Some (token, rest)
+token_is bytes token spelling rest occurs =
+    ap token_from occurs.parts
     ∙ token_made (spelling ++ rest) token spelling rest
-    (shape_again token spelling rest stands.spells (legal_utf8 spelling stands.legal) stands.follows)
+    (shape_again token spelling rest occurs.spells (legal_utf8 spelling occurs.legal) occurs.follows)
     (before_rest_is spelling rest)
-    (spelling_is spelling stands.short stands.legal)
+    (spelling_is spelling occurs.short occurs.legal)
 
--- a token that is read stands
-pub token_found : (bytes : List ℕ) (token : Token) (rest : List ℕ) → token_from bytes ≡ Some (token, rest) → (spelling : List ℕ) × Stands bytes token spelling rest
+-- a token that is read occurs
+pub token_found : (bytes : List ℕ) (token : Token) (rest : List ℕ) → token_from bytes ≡ Some (token, rest) → (spelling : List ℕ) × Occurs bytes token spelling rest
 unfolding token_from is_spelling
 token_found bytes token rest e =
     let a = bind_some (shape_at bytes) _ (token, rest) e in
@@ -153,22 +153,22 @@ token_found bytes token rest e =
     let f = shape_found bytes a.0.0 a.0.1 a.1 in
     let cut : before_rest bytes a.0.1 ≡ f.spelling = ap (λ (t : List ℕ). before_rest t a.0.1) f.parts ∙ before_rest_is f.spelling a.0.1 in
     let tests = and_parts (nat_le (length f.spelling) spelling_limit) (is_legal f.spelling) (sym (ap is_spelling cut) ∙ g.0) in
-    let here : Stands bytes a.0.0 f.spelling a.0.1 = record {
+    let here : Occurs bytes a.0.0 f.spelling a.0.1 = record {
       parts = f.parts;
       spells = f.spells;
       legal = is_legal_found f.spelling tests.1;
       short = leb-true _ _ tests.0;
       follows = f.follows;
     } in
-    (f.spelling, subst (λ t. Stands bytes t f.spelling rest) p.0 (subst (λ r. Stands bytes a.0.0 f.spelling r) p.1 here))
+    (f.spelling, subst (λ t. Occurs bytes t f.spelling rest) p.0 (subst (λ r. Occurs bytes a.0.0 f.spelling r) p.1 here))
 
--- at an offset at most one token stands, and its end is determined
-pub one_token_stands : HasOneToken
-one_token_stands bytes k token other e f at also =
+-- at an offset at most one token occurs, and its end is determined
+pub one_token_occurs : HasOneToken
+one_token_occurs bytes k token other e f at also =
     let both = some_pair_is token other at.rest also.rest
-    (sym (token_is (drop k bytes) token at.spelling at.rest at.stands) ∙ token_is (drop k bytes) other also.spelling also.rest also.stands)
+    (sym (token_is (drop k bytes) token at.spelling at.rest at.occurs) ∙ token_is (drop k bytes) other also.spelling also.rest also.occurs)
     in
     let rests = ap length both.1 in
-    let one = ap length at.stands.parts in
-    let two = ap length also.stands.parts in
+    let one = ap length at.occurs.parts in
+    let two = ap length also.occurs.parts in
     (both.0, omega (arith, rests, one, two, at.end_is, also.end_is, length-append at.spelling at.rest, length-append also.spelling also.rest))

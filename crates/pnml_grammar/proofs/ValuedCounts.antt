@@ -28,7 +28,7 @@ pub record AreCounted (counts : Counts) (items : List Item) : Type 0 where
 none_counted : (counts : Counts) → AreCounted counts []
 none_counted counts = omega arith
 
--- one list behind the other
+-- one list after the other
 more_counted : (one other : Counts) (xs ys : List Item) → AreCounted one xs → AreCounted other ys → AreCounted (one plus other) (xs ++ ys)
 more_counted one other xs ys a b = record {
   places = omega (arith, a.places, b.places, count_by_append is_place xs ys);

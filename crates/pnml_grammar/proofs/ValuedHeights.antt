@@ -123,7 +123,7 @@ page_low page items h le low opened more room shallow =
     let same : opened ≡ opened + 1 - 1 = omega arith in
     (omega arith, subst (IsShallow (opened + 1)) (sym (append_assoc items (PageEnd ∷ []) more)) (low (opened + 1) (PageEnd ∷ more) (omega arith) (subst (λ n. IsShallow n more) same shallow)))
 
--- the root stands around all, and nets in the root
+-- the root is around all, and nets in the root
 holds_pnml : (context : Context) → IsRead context → may_hold context elements.Pnml ≡ true → context ≡ contexts.Document
 holds_pnml contexts.Document read e = refl
 holds_pnml contexts.Skipped read e = absurd read

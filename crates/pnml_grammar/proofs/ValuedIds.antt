@@ -1,4 +1,4 @@
--- The ids of a tag that may stand: the test of bytes is one of characters, since a byte of a character above
+-- The ids of a tag that may occur: the test of bytes is one of characters, since a byte of a character above
 -- U+007F passes it, and the attributes that an element needs are there.
 use Rattle.std.proofs.Common.{◌≡◌, ℕ, Bool, true, false, cond, List, [], ◌∷◌, Option, Some, None, refl, sym, ap, ◌∙◌, arith, inl, inr, length}
 use Rattle.std.specs.Prelude.{◌==◌, ◌&&◌, ◌||◌, not, nat_le, nat_lt, codes, bytes_eq, is_some, unwrap_or, encode_utf8}

@@ -1,4 +1,4 @@
--- The pages of the items that a tree gives match: an element gives whole pages alone, so that its items stand
+-- The pages of the items that a tree gives match: an element gives whole pages only, so that its items occur
 -- in front of any items that match.
 use Rattle.std.proofs.Common.{◌≡◌, ℕ, ◌+◌, ◌-◌, List, [], ◌∷◌, ◌++◌, refl, sym, subst, append_assoc, arith}
 use Rattle.std.specs.List.{AllByRecursion}

@@ -4,7 +4,7 @@ use Rattle.std.proofs.Common.{◌≡◌, ℕ, ◌<◌, ◌≤◌, ◌^◌, true,
 use Rattle.std.specs.Prelude.{◌&&◌, nat_le, nat_lt, unwrap_or, option_to_list, IfSome}
 use Rattle.std.specs.List.{AllByRecursion}
 use Rattle.std.proofs.lemmas.Bool.{cases_Bool, and_parts, leb-true, ltb-true}
-use Rattle.net_values.specs.Characters.{IsLegalText, IsId, IsName}
+use Rattle.net_values.specs.Characters.{IsLegalText, IsId, IsNameValue}
 use Rattle.net_values.specs.declared.document.NetTree.{NetTree}
 use Rattle.net_values.specs.declared.document.Item.{Item}
 use Rattle.net_values.specs.declared.document.Item.TheVariants.{PageEnd}
@@ -53,7 +53,7 @@ pub record IsContentInRange (context : Context) (c : Content) : Type 0 where
   pub items : AllByRecursion HasValuesInRange c.items
   pub names : AllByRecursion IsNameIfAny c.names
   pub numbers : AllByRecursion (IsNumberIfAny context) c.numbers
-  pub texts : AllByRecursion IsName c.texts
+  pub texts : AllByRecursion IsNameValue c.texts
   pub bytes : IsLegalText c.bytes
   pub numerals : AllByRecursion (IsNumberOf context) c.numerals
 
@@ -66,7 +66,7 @@ joined_in_range context a b one other = record {
   items = each_append HasValuesInRange a.items b.items one.items other.items;
   names = each_append IsNameIfAny a.names b.names one.names other.names;
   numbers = each_append (IsNumberIfAny context) a.numbers b.numbers one.numbers other.numbers;
-  texts = each_append IsName a.texts b.texts one.texts other.texts;
+  texts = each_append IsNameValue a.texts b.texts one.texts other.texts;
   bytes = legal_join a.bytes b.bytes one.bytes other.bytes;
   numerals = each_append (IsNumberOf context) a.numerals b.numerals one.numerals other.numerals;
 }
@@ -85,7 +85,7 @@ name_in_range context name is = record { nets = tt; items = tt; names = (is, tt)
 number_in_range : (context : Context) (number : Option ℕ) → IsNumberIfAny context number → IsContentInRange context (record nothing { numbers = number ∷ [] })
 number_in_range context number is = record { nets = tt; items = tt; names = tt; numbers = (is, tt); texts = tt; bytes = legal_nothing; numerals = tt }
 
-text_in_range : (context : Context) (text : List ℕ) → IsName text → IsContentInRange context (record nothing { texts = text ∷ [] })
+text_in_range : (context : Context) (text : List ℕ) → IsNameValue text → IsContentInRange context (record nothing { texts = text ∷ [] })
 text_in_range context text is = record { nets = tt; items = tt; names = tt; numbers = tt; texts = (is, tt); bytes = legal_nothing; numerals = tt }
 
 bytes_in_range : (context : Context) (bytes : List ℕ) → IsLegalText bytes → IsContentInRange context (record nothing { bytes = bytes })
@@ -132,7 +132,7 @@ first_name : (names : List (Option (List ℕ))) → AllByRecursion IsNameIfAny n
 first_name [] each = tt
 first_name (name ∷ names) each = each.0
 
-first_text : (texts : List (List ℕ)) → AllByRecursion IsName texts → IsNameIfAny (first texts)
+first_text : (texts : List (List ℕ)) → AllByRecursion IsNameValue texts → IsNameIfAny (first texts)
 first_text [] each = tt
 first_text (text ∷ texts) each = each.0
 
@@ -145,7 +145,7 @@ number_or context other is [] each = is
 number_or context other is (None ∷ numbers) each = is
 number_or context other is (Some n ∷ numbers) each = each.0
 
--- markings stand in places, and inscriptions on arcs
+-- markings are in places, and inscriptions on arcs
 holds_marking : (context : Context) → IsRead context → may_hold context elements.InitialMarking ≡ true → context ≡ contexts.Place
 holds_marking contexts.Place read e = refl
 holds_marking contexts.Skipped read e = absurd read

@@ -11,7 +11,7 @@ use Rattle.net_values.specs.declared.document.Document.{Document}
 use Rattle.net_values.specs.declared.document.RefNode.{RefNode}
 use Rattle.net_values.specs.declared.document.Item.{Item}
 use Rattle.net_values.specs.declared.document.Item.TheVariants.{Page, PageEnd, Place, Transition, RefPlace, RefTransition, Arc}
-use Rattle.net_values.specs.Characters.{IsLegalCharacter, IsTextOf, IsIdCharacter, IsId, IsName}
+use Rattle.net_values.specs.Characters.{IsLegalCharacter, IsTextOf, IsIdCharacter, IsId, IsNameValue}
 use Rattle.pnml_grammar.specs.Resolving.{is_legal_character}
 use Rattle.pnml_grammar.specs.Valued.{IsNameIfAny, HasValuesInRange, IsWithinLimits, Valued}
 use Rattle.pnml_grammar.specs.ValuedTests.{is_text_of, is_id_character, is_valued_id, is_valued_name, is_valued_name_if_any, is_weight, has_values_in_range, start, walks, is_valued}
@@ -72,13 +72,13 @@ id_is bytes h =
     (and_from (nat_le 1 (length bytes)) (nat_le (length bytes) 4096) (le-leb 1 (length bytes) h.nonempty) (le-leb (length bytes) 4096 h.short))
     (text_is IsIdCharacter is_id_character bytes id_character_is (λ c is. legal_scalar c is.0) h.characters)
 
-name_found : (bytes : List ℕ) → is_valued_name bytes ≡ true → IsName bytes
+name_found : (bytes : List ℕ) → is_valued_name bytes ≡ true → IsNameValue bytes
 unfolding is_valued_name
 name_found bytes e =
     let p = and_parts (nat_le (length bytes) 65536) (is_text_of is_legal_character bytes) e in
     record { characters = text_found IsLegalCharacter is_legal_character bytes legal_found p.1; short = leb-true (length bytes) 65536 p.0 }
 
-name_is : (bytes : List ℕ) → IsName bytes → is_valued_name bytes ≡ true
+name_is : (bytes : List ℕ) → IsNameValue bytes → is_valued_name bytes ≡ true
 unfolding is_valued_name
 name_is bytes h =
     and_from (nat_le (length bytes) 65536) (is_text_of is_legal_character bytes) (le-leb (length bytes) 65536 h.short)

@@ -1,4 +1,4 @@
--- What holds of what elements give, by induction on trees, once for all properties: of nothing, of one behind
+-- What holds of what elements give, by induction on trees, once for all properties: of nothing, of one after
 -- the other, of what characters give, and of what an element gives where it holds of its children.
 use Rattle.std.proofs.Common.{◌≡◌, ℕ, suc, max, true, List, Option, Some, None, refl, ap, subst, ◌∙◌}
 use Rattle.std.specs.Prelude.{IsTrue, ◌&&◌}
@@ -10,7 +10,7 @@ use Rattle.pnml_grammar.specs.declared.element.Context.TheVariants as contexts
 use Rattle.pnml_grammar.specs.declared.element.ElementKind.{ElementKind}
 use Rattle.pnml_grammar.specs.declared.element.ElementKind.TheVariants as elements
 use Rattle.pnml_grammar.specs.declared.token.Attribute.{Attribute}
-use Rattle.pnml_grammar.specs.Elements.{element_named, context_in, context_if_any, context_of_kind, may_hold, may_stand, may_stand_as, has_namespace, has_type, has_attributes}
+use Rattle.pnml_grammar.specs.Elements.{element_named, context_in, context_if_any, context_of_kind, may_hold, may_occur, may_occur_as, has_namespace, has_type, has_attributes}
 use Rattle.pnml_grammar.specs.Trees.{Node, element, empty_element, comment, instruction, cdata, characters, Nodes, none, ◌and◌, node_tokens, nodes_tokens, node_height, nodes_height}
 use Rattle.pnml_grammar.specs.Contents.{Content, nothing, ◌then◌, gives, characters_content, cdata_content, node_content, nodes_content}
 use Rattle.pnml_grammar.specs.Counts.{Counts, no_counts, ◌plus◌, counts_of_kind, counts_if_any, tag_counts, node_counts, nodes_counts}
@@ -27,7 +27,7 @@ abbrev pub IsRead : Context → Type 0
 IsRead contexts.Skipped = ⊥
 IsRead context = Unit
 
--- a tag of the kind may stand there with these attributes
+-- a tag of the kind may occur there with these attributes
 pub record IsRightTag (context : Context) (kind : ElementKind) (attributes : List Attribute) : Type 0 where
   pub read_is : IsRead context
   pub attributes_are : has_attributes kind attributes ≡ true
@@ -50,7 +50,7 @@ pub record IsKept (P : Property) : Type 0 where
 -- a tag in a skipped part, or one of a known kind
 record IsOfKind (context : Context) (name : List ℕ) (attributes : List Attribute) : Type 0 where
   kind : ElementKind
-  stands : IsRightTag context kind attributes
+  occurs : IsRightTag context kind attributes
   inner_is : context_in context (element_named name) ≡ context_of_kind context kind
   counts_are : tag_counts context name ≡ counts_of_kind kind
 
@@ -58,19 +58,19 @@ data Opens : Context → List ℕ → List Attribute → Type 0 where
   skipped : (name : List ℕ) (attributes : List Attribute) → Opens contexts.Skipped name attributes
   known : (context : Context) (name : List ℕ) (attributes : List Attribute) → IsOfKind context name attributes → Opens context name attributes
 
-right_tag : (context : Context) (kind : ElementKind) (attributes : List Attribute) → IsRead context → may_stand_as context (Some kind) attributes ≡ true → IsRightTag context kind attributes
+right_tag : (context : Context) (kind : ElementKind) (attributes : List Attribute) → IsRead context → may_occur_as context (Some kind) attributes ≡ true → IsRightTag context kind attributes
 right_tag context kind attributes read e =
     let p = and_parts (has_namespace kind attributes && has_type kind attributes && has_attributes kind attributes) (may_hold context kind) e in
     let q = and_parts (has_namespace kind attributes && has_type kind attributes) (has_attributes kind attributes) p.0 in
     record { read_is = read; attributes_are = q.1; place_is = p.1 }
 
-opens_known : (context : Context) (name : List ℕ) (attributes : List Attribute) (found : Option ElementKind) → IsRead context → element_named name ≡ found → may_stand_as context found attributes ≡ true
+opens_known : (context : Context) (name : List ℕ) (attributes : List Attribute) (found : Option ElementKind) → IsRead context → element_named name ≡ found → may_occur_as context found attributes ≡ true
     → context_in context (element_named name) ≡ context_if_any context (element_named name) → tag_counts context name ≡ counts_if_any (element_named name) → Opens context name attributes
-opens_known context name attributes None read e stands inner counts = absurd cc
-opens_known context name attributes (Some kind) read e stands inner counts =
-    known context name attributes record { kind = kind; stands = right_tag context kind attributes read stands; inner_is = inner ∙ ap (context_if_any context) e; counts_are = counts ∙ ap counts_if_any e }
+opens_known context name attributes None read e occurs inner counts = absurd cc
+opens_known context name attributes (Some kind) read e occurs inner counts =
+    known context name attributes record { kind = kind; occurs = right_tag context kind attributes read occurs; inner_is = inner ∙ ap (context_if_any context) e; counts_are = counts ∙ ap counts_if_any e }
 
-opens : (context : Context) (name : List ℕ) (attributes : List Attribute) → IsTrue (may_stand context name attributes) → Opens context name attributes
+opens : (context : Context) (name : List ℕ) (attributes : List Attribute) → IsTrue (may_occur context name attributes) → Opens context name attributes
 opens contexts.Skipped name attributes h = skipped name attributes
 opens context name attributes h = opens_known context name attributes (element_named name) tt refl h refl refl
 
@@ -86,7 +86,7 @@ module _ (P : Property) (kept : IsKept P) where
       → P context (suc h) (tag_counts context name plus counts) (gives (context_in context (element_named name)) attributes c)
   whole_is _ _ _ h counts c (skipped name attributes) legal filled each = kept.skipped_is (suc h) (no_counts plus counts)
   whole_is _ _ _ h counts c (known context name attributes is) legal filled each =
-      rw (is.inner_is, is.counts_are) (kept.element_is context is.kind attributes h counts c is.stands legal (subst (λ k. IsFilled k c) is.inner_is filled) (subst (λ k. P k h counts c) is.inner_is each))
+      rw (is.inner_is, is.counts_are) (kept.element_is context is.kind attributes h counts c is.occurs legal (subst (λ k. IsFilled k c) is.inner_is filled) (subst (λ k. P k h counts c) is.inner_is each))
 
   empty_is : (context : Context) (name : List ℕ) (attributes : List Attribute) → Opens context name attributes → HaveLegalValues attributes
       → IsFilled (context_in context (element_named name)) nothing
@@ -96,7 +96,7 @@ module _ (P : Property) (kept : IsKept P) where
       let inner = context_of_kind context is.kind in
       rw (is.inner_is, is.counts_are)
       (subst (λ counts. P context 1 counts (gives inner attributes nothing)) (plus_none is.kind)
-      (kept.element_is context is.kind attributes 0 no_counts nothing is.stands legal (subst (λ k. IsFilled k nothing) is.inner_is filled) (kept.none_is inner)))
+      (kept.element_is context is.kind attributes 0 no_counts nothing is.occurs legal (subst (λ k. IsFilled k nothing) is.inner_is filled) (kept.none_is inner)))
 
   mutual
     node_is : (context : Context) (node : Node) → IsChild context node → AllByRecursion HasLegalTexts (node_tokens node) → P context (node_height node) (node_counts context node) (node_content context node)

@@ -1,5 +1,5 @@
 -- The walk over the items tests at each item what pages, depth and counts ask for: what is left can be walked
--- behind an item just where it and the item can be walked before it.
+-- after an item just where it and the item can be walked before it.
 use Rattle.std.proofs.Common.{◌≡◌, ℕ, ◌+◌, ◌-◌, ◌≤◌, Bool, true, false, cond, List, [], ◌∷◌, Option, Some, None, refl, subst, arith, inl, inr}
 use Rattle.std.specs.Prelude.{◌==◌, ◌&&◌, nat_le, count_by}
 use Rattle.std.specs.List.{AllByRecursion}
@@ -9,7 +9,7 @@ use Rattle.net_values.specs.declared.document.Item.TheVariants.{Page, PageEnd, P
 use Rattle.net_values.specs.Items.{is_page, is_place, is_transition, is_arc, is_reference}
 use Rattle.pnml_grammar.specs.declared.walk.Walk.{Walk}
 use Rattle.pnml_grammar.specs.Valued.{PagesMatch, name_height, item_height, IsShallow}
-use Rattle.pnml_grammar.specs.ValuedTests.{has_values_in_range, behind, may_count, is_low, past, walks}
+use Rattle.pnml_grammar.specs.ValuedTests.{has_values_in_range, beyond, may_count, is_low, past, walks}
 use Rattle.pnml_grammar.proofs.EachLaws.{count_by_append}
 
 -- ---- counts
@@ -31,13 +31,13 @@ pub record AreWithin (walk : Walk) (items : List Item) : Type 0 where
   pub references : walk.references + count_by is_reference items ≤ 4096
   pub pages : walk.pages + count_by is_page items ≤ 1024
 
--- what was passed and what is left are together as many behind an item as before it
+-- what was passed and what is left are together as many after an item as before it
 record KeepsSums (walk : Walk) (item : Item) (items : List Item) : Type 0 where
-  places : (behind walk item).places + count_by is_place items ≡ walk.places + count_by is_place (item ∷ items)
-  transitions : (behind walk item).transitions + count_by is_transition items ≡ walk.transitions + count_by is_transition (item ∷ items)
-  arcs : (behind walk item).arcs + count_by is_arc items ≡ walk.arcs + count_by is_arc (item ∷ items)
-  references : (behind walk item).references + count_by is_reference items ≡ walk.references + count_by is_reference (item ∷ items)
-  pages : (behind walk item).pages + count_by is_page items ≡ walk.pages + count_by is_page (item ∷ items)
+  places : (beyond walk item).places + count_by is_place items ≡ walk.places + count_by is_place (item ∷ items)
+  transitions : (beyond walk item).transitions + count_by is_transition items ≡ walk.transitions + count_by is_transition (item ∷ items)
+  arcs : (beyond walk item).arcs + count_by is_arc items ≡ walk.arcs + count_by is_arc (item ∷ items)
+  references : (beyond walk item).references + count_by is_reference items ≡ walk.references + count_by is_reference (item ∷ items)
+  pages : (beyond walk item).pages + count_by is_page items ≡ walk.pages + count_by is_page (item ∷ items)
 
 -- the first is counted apart from the others
 record CountsFirst (item : Item) (items : List Item) : Type 0 where
@@ -65,21 +65,21 @@ keeps_sums walk (RefPlace node) items = omega (arith, counts_first (RefPlace nod
 keeps_sums walk (RefTransition node) items = omega (arith, counts_first (RefTransition node) items)
 keeps_sums walk (Arc arc) items = omega (arith, counts_first (Arc arc) items)
 
-within_before : (walk : Walk) (item : Item) (items : List Item) → AreWithin (behind walk item) items → AreWithin walk (item ∷ items)
+within_before : (walk : Walk) (item : Item) (items : List Item) → AreWithin (beyond walk item) items → AreWithin walk (item ∷ items)
 within_before walk item items within = omega (arith, within, keeps_sums walk item items)
 
-within_behind : (walk : Walk) (item : Item) (items : List Item) → AreWithin walk (item ∷ items) → AreWithin (behind walk item) items
-within_behind walk item items within = omega (arith, within, keeps_sums walk item items)
+within_after : (walk : Walk) (item : Item) (items : List Item) → AreWithin walk (item ∷ items) → AreWithin (beyond walk item) items
+within_after walk item items within = omega (arith, within, keeps_sums walk item items)
 
 -- ---- pages
 
-pages_before : (walk : Walk) (item : Item) (items : List Item) → may_count walk item ≡ true → PagesMatch (behind walk item).opened items → PagesMatch walk.opened (item ∷ items)
+pages_before : (walk : Walk) (item : Item) (items : List Item) → may_count walk item ≡ true → PagesMatch (beyond walk item).opened items → PagesMatch walk.opened (item ∷ items)
 pages_before walk PageEnd items e match = (ltb-true 0 walk.opened e, match)
 pages_before walk item items e match = match
 
-pages_behind : (walk : Walk) (item : Item) (items : List Item) → PagesMatch walk.opened (item ∷ items) → PagesMatch (behind walk item).opened items
-pages_behind walk PageEnd items match = match.1
-pages_behind walk item items match = match
+pages_after : (walk : Walk) (item : Item) (items : List Item) → PagesMatch walk.opened (item ∷ items) → PagesMatch (beyond walk item).opened items
+pages_after walk PageEnd items match = match.1
+pages_after walk item items match = match
 
 -- ---- depth
 
@@ -105,7 +105,7 @@ depth_is opened height low e = omega (arith, leb-true opened (126 - height) e)
 depth_tested : (opened height : ℕ) → opened + 2 + height ≤ 128 → nat_le opened (126 - height) ≡ true
 depth_tested opened height le = le-leb opened (126 - height) (omega arith)
 
-shallow_before : (walk : Walk) (item : Item) (items : List Item) → is_low walk item ≡ true → may_count walk item ≡ true → IsShallow ((behind walk item).opened + 2) items
+shallow_before : (walk : Walk) (item : Item) (items : List Item) → is_low walk item ≡ true → may_count walk item ≡ true → IsShallow ((beyond walk item).opened + 2) items
     → IsShallow (walk.opened + 2) (item ∷ items)
 shallow_before walk (Page page) items low e shallow =
     let same : walk.opened + 1 + 2 ≡ walk.opened + 2 + 1 = omega arith in
@@ -116,15 +116,15 @@ shallow_before walk PageEnd items low e shallow =
     subst (λ n. IsShallow n items) same shallow
 shallow_before walk item items low e shallow = (depth_is walk.opened (item_height item) (height_low item) low, shallow)
 
-shallow_behind : (walk : Walk) (item : Item) (items : List Item) → may_count walk item ≡ true → IsShallow (walk.opened + 2) (item ∷ items) → IsShallow ((behind walk item).opened + 2) items
-shallow_behind walk (Page page) items e shallow =
+shallow_after : (walk : Walk) (item : Item) (items : List Item) → may_count walk item ≡ true → IsShallow (walk.opened + 2) (item ∷ items) → IsShallow ((beyond walk item).opened + 2) items
+shallow_after walk (Page page) items e shallow =
     let same : walk.opened + 2 + 1 ≡ walk.opened + 1 + 2 = omega arith in
     subst (λ n. IsShallow n items) same shallow.1
-shallow_behind walk PageEnd items e shallow =
+shallow_after walk PageEnd items e shallow =
     let some = ltb-true 0 walk.opened e in
     let same : walk.opened + 2 - 1 ≡ walk.opened - 1 + 2 = omega arith in
     subst (λ n. IsShallow n items) same shallow
-shallow_behind walk item items e shallow = shallow.1
+shallow_after walk item items e shallow = shallow.1
 
 -- ---- one item
 
@@ -142,14 +142,14 @@ count_is walk (RefPlace node) items within match = lt-ltb walk.references 4096 (
 count_is walk (RefTransition node) items within match = lt-ltb walk.references 4096 (omega (arith, within.references, (counts_first (RefTransition node) items).references))
 count_is walk (Arc arc) items within match = lt-ltb walk.arcs 65536 (omega (arith, within.arcs, (counts_first (Arc arc) items).arcs))
 
-fit_behind : (walk : Walk) (item : Item) → IsFit walk → is_low walk item ≡ true → may_count walk item ≡ true → IsFit (behind walk item)
-fit_behind walk (Page page) fit low e = omega (arith, fit, ltb-true walk.pages 1024 e, leb-true walk.opened (126 - item_height (Page page)) low)
-fit_behind walk PageEnd fit low e = omega (arith, fit)
-fit_behind walk (Place place) fit low e = omega (arith, fit, ltb-true walk.places 2048 e)
-fit_behind walk (Transition transition) fit low e = omega (arith, fit, ltb-true walk.transitions 2048 e)
-fit_behind walk (RefPlace node) fit low e = omega (arith, fit, ltb-true walk.references 4096 e)
-fit_behind walk (RefTransition node) fit low e = omega (arith, fit, ltb-true walk.references 4096 e)
-fit_behind walk (Arc arc) fit low e = omega (arith, fit, ltb-true walk.arcs 65536 e)
+fit_after : (walk : Walk) (item : Item) → IsFit walk → is_low walk item ≡ true → may_count walk item ≡ true → IsFit (beyond walk item)
+fit_after walk (Page page) fit low e = omega (arith, fit, ltb-true walk.pages 1024 e, leb-true walk.opened (126 - item_height (Page page)) low)
+fit_after walk PageEnd fit low e = omega (arith, fit)
+fit_after walk (Place place) fit low e = omega (arith, fit, ltb-true walk.places 2048 e)
+fit_after walk (Transition transition) fit low e = omega (arith, fit, ltb-true walk.transitions 2048 e)
+fit_after walk (RefPlace node) fit low e = omega (arith, fit, ltb-true walk.references 4096 e)
+fit_after walk (RefTransition node) fit low e = omega (arith, fit, ltb-true walk.references 4096 e)
+fit_after walk (Arc arc) fit low e = omega (arith, fit, ltb-true walk.arcs 65536 e)
 
 -- ---- all items
 
@@ -167,8 +167,8 @@ pub walks_found : (walk : Walk) (items : List Item) → IsFit walk → walks (So
 walks_found walk [] fit e = (tt, record { pages = eqb-true walk.opened 0 e; shallow = tt; within = omega (arith, fit) })
 walks_found walk (item ∷ items) fit e =
     let both = and_parts (has_values_in_range item) (walks (past walk item) items) e in
-    let p = past_found (is_low walk item) (may_count walk item) (behind walk item) items both.1 in
-    let rest = walks_found (behind walk item) items (fit_behind walk item fit p.0 p.1) p.2 in (
+    let p = past_found (is_low walk item) (may_count walk item) (beyond walk item) items both.1 in
+    let rest = walks_found (beyond walk item) items (fit_after walk item fit p.0 p.1) p.2 in (
       (both.0, rest.0),
       record {
         pages = pages_before walk item items p.1 rest.1.pages;
@@ -182,9 +182,9 @@ walks_is walk [] fit each is = eq-eqb walk.opened 0 is.pages
 walks_is walk (item ∷ items) fit each is =
     let count = count_is walk item items is.within is.pages in
     let low = low_is walk item items fit is.shallow in
-    let rest : Walks (behind walk item) items = record {
-      pages = pages_behind walk item items is.pages;
-      shallow = shallow_behind walk item items count is.shallow;
-      within = within_behind walk item items is.within;
+    let rest : Walks (beyond walk item) items = record {
+      pages = pages_after walk item items is.pages;
+      shallow = shallow_after walk item items count is.shallow;
+      within = within_after walk item items is.within;
     } in
-    rw (each.0, low, count) (walks_is (behind walk item) items (fit_behind walk item fit low count) each.1 rest)
+    rw (each.0, low, count) (walks_is (beyond walk item) items (fit_after walk item fit low count) each.1 rest)

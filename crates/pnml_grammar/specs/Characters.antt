@@ -7,7 +7,7 @@ abbrev pub Each : (ℕ → Bool) → List ℕ → Type 0
 Each test [] = Unit
 Each test (byte ∷ bytes) = (test byte ≡ true) × Each test bytes
 
--- the part stands nowhere in the bytes
+-- the part occurs nowhere in the bytes
 abbrev pub Without : List ℕ → List ℕ → Type 0
 Without part bytes = (before after : List ℕ) → bytes ≡ before ++ (part ++ after) → ⊥
 

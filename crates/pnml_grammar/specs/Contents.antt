@@ -24,7 +24,7 @@ pub record Content : Type 0 where
 abbrev pub nothing : Content
 nothing = record { nets = []; items = []; names = []; numbers = []; texts = []; bytes = []; numerals = [] }
 
--- one behind the other
+-- one after the other
 infixr 20 ◌then◌
 abbrev pub ◌then◌ : Content → Content → Content
 a then b = record {

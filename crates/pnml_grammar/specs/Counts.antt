@@ -1,4 +1,4 @@
--- How many elements of the counted kinds stand outside skipped parts.
+-- How many elements of the counted kinds occur outside skipped parts.
 use Rattle.std.specs.Prelude.{ℕ, ◌+◌, ◌≤◌, List, Option, Some, None}
 use Rattle.pnml_grammar.specs.declared.element.ElementKind.{ElementKind}
 use Rattle.pnml_grammar.specs.declared.element.ElementKind.TheVariants as elements

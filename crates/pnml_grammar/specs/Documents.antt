@@ -1,4 +1,4 @@
--- The documents that tokens spell: whole elements, each with what may stand in it (ISO/IEC 15909-2).
+-- The documents that tokens spell: whole elements, each with what may occur in it (ISO/IEC 15909-2).
 use Rattle.std.specs.Prelude.{◌≡◌, ℕ, ◌≤◌, Bool, true, false, ◌||◌, nat_le, List, [], ◌∷◌, ◌++◌, IsTrue, is_some, length, if◌then◌else◌}
 use Rattle.net_values.specs.declared.document.Document.{Document}
 use Rattle.pnml_grammar.specs.declared.element.Context.{Context}
@@ -7,13 +7,13 @@ use Rattle.pnml_grammar.specs.declared.token.Token.{Token}
 use Rattle.pnml_grammar.specs.declared.token.Token.TheVariants as tokens
 use Rattle.pnml_grammar.specs.Valued.{Valued}
 use Rattle.pnml_grammar.specs.Tokens.{TokensOf}
-use Rattle.pnml_grammar.specs.Elements.{element_named, context_in, may_stand}
+use Rattle.pnml_grammar.specs.Elements.{element_named, context_in, may_occur}
 use Rattle.pnml_grammar.specs.Numerals.{is_white, number_in}
 use Rattle.pnml_grammar.specs.Trees.{Node, element, empty_element, comment, instruction, cdata, characters, Nodes, none, ◌and◌, nodes_tokens, nodes_height}
 use Rattle.pnml_grammar.specs.Contents.{Content, nothing, nodes_content}
 use Rattle.pnml_grammar.specs.Counts.{nodes_counts, IsWithin}
 
--- the most elements that are open at a place
+-- the most elements that are open at an offset
 abbrev pub depth_limit : ℕ
 depth_limit = 128
 
@@ -47,20 +47,20 @@ may_have_characters contexts.NameText value = true
 may_have_characters contexts.Skipped value = true
 may_have_characters context value = is_white value || is_some (number_in context value)
 
--- CDATA sections stand in the text of a name, and in skipped parts
+-- CDATA sections are in the text of a name, and in skipped parts
 abbrev pub may_have_cdata : Context → Bool
 may_have_cdata contexts.NameText = true
 may_have_cdata contexts.Skipped = true
 may_have_cdata _ = false
 
--- what may stand in a context: trivia, and elements with what may stand in them
+-- what may occur in a context: trivia, and elements with what may occur in them
 abbrev mutual
   pub IsChild : Context → Node → Type 0
   IsChild context (element name attributes children) =
-      IsTrue (may_stand context name attributes) × EachChild (context_in context (element_named name)) children
+      IsTrue (may_occur context name attributes) × EachChild (context_in context (element_named name)) children
       × IsFilled (context_in context (element_named name)) (nodes_content (context_in context (element_named name)) children)
   IsChild context (empty_element name attributes) =
-      IsTrue (may_stand context name attributes) × IsFilled (context_in context (element_named name)) nothing
+      IsTrue (may_occur context name attributes) × IsFilled (context_in context (element_named name)) nothing
   IsChild context comment = Unit
   IsChild context instruction = Unit
   IsChild context (cdata value) = IsTrue (may_have_cdata context)

@@ -31,7 +31,7 @@ attribute_names =
 unfoldable pub attribute_kinds : List AttributeKind
 attribute_kinds = Id ∷ NetType ∷ Source ∷ Target ∷ Ref ∷ Xmlns ∷ []
 
--- the kind that stands where the name stands in the other list
+-- the kind that occurs where the name is in the other list
 abbrev pub kind_named : {K : Type 0} → List (List ℕ) → List K → List ℕ → Option K
 kind_named names kinds name = option_and_then (slice_get kinds) (position (λ other. bytes_eq other name) names)
 
@@ -70,7 +70,7 @@ needs _ _ = false
 unfoldable pub is_id : List ℕ → Bool
 is_id value = nat_le 1 (length value) && nat_le (length value) 4096 && list_all (λ byte. nat_lt 32 byte && not (byte == 127)) value
 
--- the namespace may stand on every element, with the value that has_namespace asks for
+-- the namespace may occur on every element, with the value that has_namespace asks for
 abbrev pub fits_as : ElementKind → AttributeKind → List ℕ → Bool
 fits_as element Xmlns value = true
 fits_as element NetType value = needs element NetType
@@ -127,9 +127,9 @@ is_of_type _ value = true
 unfoldable pub has_type : ElementKind → List Attribute → Bool
 has_type element attributes = is_of_type element (value_of (codes "type") attributes)
 
--- ---- what stands in what
+-- ---- what is in what
 
--- what the children of an element stand in; everything in a skipped part is skipped
+-- what the children of an element are in; everything in a skipped part is skipped
 abbrev pub context_of_text : Context → Context
 context_of_text contexts.Name = contexts.NameText
 context_of_text contexts.InitialMarking = contexts.MarkingText
@@ -174,7 +174,7 @@ abbrev pub is_name : ElementKind → Bool
 is_name elements.Name = true
 is_name _ = false
 
--- which elements may stand in which at all; skipped parts may stand in every element but `text`
+-- which elements may occur in which at all; skipped parts may occur in every element but `text`
 abbrev pub may_hold : Context → ElementKind → Bool
 may_hold contexts.Document elements.Pnml = true
 may_hold contexts.Document _ = false
@@ -201,11 +201,11 @@ may_hold contexts.WeightText _ = false
 may_hold contexts.Skipped _ = true
 
 -- a tag whose name, attributes and place are right
-abbrev pub may_stand_as : Context → Option ElementKind → List Attribute → Bool
-may_stand_as context None attributes = false
-may_stand_as context (Some element) attributes =
+abbrev pub may_occur_as : Context → Option ElementKind → List Attribute → Bool
+may_occur_as context None attributes = false
+may_occur_as context (Some element) attributes =
     has_namespace element attributes && has_type element attributes && has_attributes element attributes && may_hold context element
 
-abbrev pub may_stand : Context → List ℕ → List Attribute → Bool
-may_stand contexts.Skipped name attributes = true
-may_stand context name attributes = may_stand_as context (element_named name) attributes
+abbrev pub may_occur : Context → List ℕ → List Attribute → Bool
+may_occur contexts.Skipped name attributes = true
+may_occur context name attributes = may_occur_as context (element_named name) attributes

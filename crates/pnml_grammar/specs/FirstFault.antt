@@ -1,4 +1,4 @@
--- The first place at which an input stops to be a document, and why it does.
+-- The first offset at which an input stops to be a document, and why it does.
 use Rattle.std.specs.Prelude.{◌≡◌, ℕ, ◌≤◌, ◌<◌, Bool, List, [], ◌∷◌, ◌++◌, Some, length, take, drop, codes, nat_eq, if◌then◌else◌, IsUtf8, ◌⊎◌}
 use Rattle.std.specs.List.{starts_with}
 use Rattle.net_values.specs.declared.document.Document.{Document}
@@ -8,7 +8,7 @@ use Rattle.pnml_grammar.specs.declared.reason.Reason.TheVariants.{BadToken, Doct
 use Rattle.pnml_grammar.specs.declared.token.Token.{Token}
 use Rattle.pnml_grammar.specs.declared.token.Token.TheVariants as tokens
 use Rattle.pnml_grammar.specs.declared.token.Attribute.{Attribute}
-use Rattle.pnml_grammar.specs.Tokens.{TokenAt, TokensTo, first_place}
+use Rattle.pnml_grammar.specs.Tokens.{TokenAt, TokensTo, first_offset}
 use Rattle.pnml_grammar.specs.Elements.{element_named, context_in}
 use Rattle.pnml_grammar.specs.Trees.{Nodes, nodes_tokens}
 use Rattle.pnml_grammar.specs.Contents.{nodes_content}
@@ -16,13 +16,13 @@ use Rattle.pnml_grammar.specs.Counts.{Counts, ◌plus◌, tag_counts, nodes_coun
 use Rattle.pnml_grammar.specs.Documents.{opening, Spells, DocBytes}
 use Rattle.pnml_grammar.specs.Machine.{Frame, State, outermost, reason_of}
 
--- an element that is open behind some tokens: its tag, and the children that are whole
+-- an element that is open after some tokens: its tag, and the children that are whole
 pub record Opened : Type 0 where
   pub name : List ℕ
   pub attributes : List Attribute
   pub children : Nodes
 
--- the elements that are open behind some tokens, innermost first, and what stands around the root
+-- the elements that are open after some tokens, innermost first, and what is around the root
 pub record Spot : Type 0 where
   pub declared : Bool
   pub opened : List Opened
@@ -34,8 +34,8 @@ opened_tokens (inner ∷ outer) outside =
     opened_tokens outer outside ++ tokens.Start inner.name inner.attributes ∷ nodes_tokens inner.children
 
 -- the tokens are those of the spot
-abbrev pub IsBehind : Spot → List Token → Type 0
-IsBehind spot list = list ≡ opening spot.declared ++ opened_tokens spot.opened spot.outside
+abbrev pub IsAfter : Spot → List Token → Type 0
+IsAfter spot list = list ≡ opening spot.declared ++ opened_tokens spot.opened spot.outside
 
 -- what the open elements and their children tell
 abbrev pub frame_of : List Opened → Nodes → Frame
@@ -68,29 +68,29 @@ pub record Begins (list : List Token) : Type 0 where
   pub document : Document
   pub spells : Spells document (list ++ rest)
 
--- the tokens up to the offset begin a document, bytes stand there, and no token does with which they begin
+-- the tokens up to the offset begin a document, bytes are there, and no token does with which they begin
 -- one
 pub record IsFaulty (bytes : List ℕ) (k : ℕ) : Type 0 where
   pub list : List Token
-  pub reaches : TokensTo bytes (first_place bytes) list k
+  pub reaches : TokensTo bytes (first_offset bytes) list k
   pub begins : Begins list
   pub inside : k < length bytes
   pub nothing_next : (token : Token) (e : ℕ) → TokenAt bytes k token e → Begins (list ++ token ∷ []) → ⊥
 
--- no token stands there: a document type, or no token at all
+-- no token is there: a document type, or no token at all
 pub record HasNoToken (bytes : List ℕ) (k : ℕ) (reason : Reason) : Type 0 where
   pub nothing_there : (token : Token) (e : ℕ) → TokenAt bytes k token e → ⊥
   pub reason_is : reason ≡ (if starts_with nat_eq (drop k bytes) (codes "<!DOCTYPE") then Doctype else BadToken)
 
--- a token stands there, and the reason is the first that applies to it where it stands
+-- a token is there, and the reason is the first that applies to it where it occurs
 pub record HasBadToken (bytes : List ℕ) (k : ℕ) (reason : Reason) : Type 0 where
   pub list : List Token
-  pub reaches : TokensTo bytes (first_place bytes) list k
+  pub reaches : TokensTo bytes (first_offset bytes) list k
   pub spot : Spot
-  pub behind : IsBehind spot list
+  pub beyond : IsAfter spot list
   pub token : Token
   pub end : ℕ
-  pub stands : TokenAt bytes k token end
+  pub occurs : TokenAt bytes k token end
   pub applies : reason_of (state_of spot) token ≡ Some reason
 
 -- the first faulty offset, and its reason

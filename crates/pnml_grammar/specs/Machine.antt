@@ -1,5 +1,5 @@
 -- Reading token by token: the open elements, each with what its whole children have given so far. Elements
--- that are open stand innermost first; the last is what stands around the root.
+-- that are open occur innermost first; the last is what is around the root.
 use Rattle.std.specs.Prelude.{ℕ, ◌+◌, Bool, true, false, ◌&&◌, ◌||◌, not, nat_le, nat_lt, List, [], ◌∷◌, Option, Some, None, is_none, length, if◌then◌else◌, bytes_eq}
 use Rattle.net_values.specs.declared.document.Document.{Document}
 use Rattle.net_values.specs.declared.document.NetTree.{NetTree}
@@ -20,14 +20,14 @@ use Rattle.pnml_grammar.specs.Counts.{Counts, no_counts, ◌plus◌, tag_counts}
 use Rattle.pnml_grammar.specs.Documents.{depth_limit, name_limit}
 use Rattle.pnml_grammar.specs.Runs.{◌>>=◌}
 
--- an open element: what stands in it, its tag, and what its children have given
+-- an open element: what is in it, its tag, and what its children have given
 pub record Frame : Type 0 where
   pub context : Context
   pub name : List ℕ
   pub attributes : List Attribute
   pub content : Content
 
--- the innermost open element, those around it, and how many counted elements have stood
+-- the innermost open element, those around it, and how many counted elements have occurred
 pub record State : Type 0 where
   pub top : Frame
   pub under : List Frame
@@ -142,7 +142,7 @@ cdata_rows contexts.NameText content value = name_rows content value
 cdata_rows contexts.Skipped content value = []
 cdata_rows _ content value = (true, Misplaced) ∷ []
 
--- the tests of the first faulty place, in their order, for a token that isn't a declaration in front
+-- the tests of the first faulty offset, in their order, for a token that isn't a declaration in front
 abbrev pub rows : State → Token → List (Bool × Reason)
 rows state tokens.Declaration = (true, Misplaced) ∷ []
 rows state tokens.Comment = []
@@ -203,10 +203,10 @@ abbrev pub run : State → List Token → Option State
 run state [] = Some state
 run state (token ∷ list) = step state token >>= λ after. run after list
 
--- a declaration is taken in front alone
-abbrev pub behind_declaration : List Token → List Token
-behind_declaration (tokens.Declaration ∷ list) = list
-behind_declaration list = list
+-- a declaration is taken in front only
+abbrev pub after_declaration : List Token → List Token
+after_declaration (tokens.Declaration ∷ list) = list
+after_declaration list = list
 
 -- the document, where the root is closed
 abbrev pub the_one : List NetTree → Option Document
@@ -223,7 +223,7 @@ finish state = finish_with state.top state.under
 
 -- what the tokens lead to, and the document that they spell
 unfoldable pub reached : List Token → Option State
-reached list = run start (behind_declaration list)
+reached list = run start (after_declaration list)
 
 unfoldable pub read : List Token → Option Document
 read list = reached list >>= finish

@@ -5,7 +5,7 @@ use Rattle.std.specs.Str.Parse.{digits_value}
 use Rattle.pnml_grammar.specs.declared.element.Context.{Context}
 use Rattle.pnml_grammar.specs.declared.element.Context.TheVariants as contexts
 use Rattle.pnml_grammar.specs.Characters.{is_between, is_space}
-use Rattle.pnml_grammar.specs.Runs.{passed, behind}
+use Rattle.pnml_grammar.specs.Runs.{passed, beyond}
 
 abbrev pub is_digit : ℕ → Bool
 is_digit byte = is_between 48 57 byte
@@ -16,8 +16,8 @@ is_white bytes = list_all is_space bytes
 -- one or more decimal digits between white space
 unfoldable pub numeral : List ℕ → Option ℕ
 numeral bytes =
-    let digits = passed is_digit (behind is_space bytes) in
-    if nat_le 1 (length digits) && is_white (behind is_digit (behind is_space bytes)) then Some (digits_value 10 digits) else None
+    let digits = passed is_digit (beyond is_space bytes) in
+    if nat_le 1 (length digits) && is_white (beyond is_digit (beyond is_space bytes)) then Some (digits_value 10 digits) else None
 
 -- an initial marking is below 2^64, and so is an inscription, which is at least 1
 abbrev pub is_in_range : Context → ℕ → Bool

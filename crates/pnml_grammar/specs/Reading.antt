@@ -9,60 +9,60 @@ use Rattle.pnml_grammar.specs.Characters.{is_space}
 use Rattle.pnml_grammar.specs.Names.{is_name_start, is_name_byte}
 use Rattle.pnml_grammar.specs.Values.{lines_ended}
 use Rattle.pnml_grammar.specs.Attributes.{is_value_byte}
-use Rattle.pnml_grammar.specs.Declarations.{Setting, declare}
+use Rattle.pnml_grammar.specs.Declarations.{RawAttribute, declare}
 use Rattle.pnml_grammar.specs.Tokens.{is_text_byte, spelling_limit}
-use Rattle.pnml_grammar.specs.Runs.{◌>>=◌, passed, behind, past, past_text, until}
+use Rattle.pnml_grammar.specs.Runs.{◌>>=◌, passed, beyond, past, past_text, until}
 use Rattle.pnml_grammar.specs.Resolving.{is_legal_character, text_of, value_of}
 
 -- ---- names and attributes
 
 abbrev pub name_at : List ℕ → Option (List ℕ × List ℕ)
 name_at [] = None
-name_at (byte ∷ bytes) = if is_name_start byte then Some (byte ∷ passed is_name_byte bytes, behind is_name_byte bytes) else None
+name_at (byte ∷ bytes) = if is_name_start byte then Some (byte ∷ passed is_name_byte bytes, beyond is_name_byte bytes) else None
 
--- a name behind white space
-abbrev pub name_behind_space : List ℕ → Option (List ℕ × List ℕ)
-name_behind_space [] = None
-name_behind_space (byte ∷ bytes) = if is_space byte then name_at (behind is_space bytes) else None
+-- a name after white space
+abbrev pub name_after_space : List ℕ → Option (List ℕ × List ℕ)
+name_after_space [] = None
+name_after_space (byte ∷ bytes) = if is_space byte then name_at (beyond is_space bytes) else None
 
 -- either quote
 abbrev pub quote_at : List ℕ → Option (ℕ × List ℕ)
 quote_at [] = None
 quote_at (byte ∷ bytes) = if byte == 34 || byte == 39 then Some (byte, bytes) else None
 
-unfoldable pub setting_at : List ℕ → Option (Setting × List ℕ)
-setting_at bytes = do
-  name ← name_behind_space bytes
-  equals ← past 61 (behind is_space name.1)
-  quote ← quote_at (behind is_space equals)
-  rest ← past quote.0 (behind (is_value_byte quote.0) quote.1)
+unfoldable pub raw_attribute_at : List ℕ → Option (RawAttribute × List ℕ)
+raw_attribute_at bytes = do
+  name ← name_after_space bytes
+  equals ← past 61 (beyond is_space name.1)
+  quote ← quote_at (beyond is_space equals)
+  rest ← past quote.0 (beyond (is_value_byte quote.0) quote.1)
   Some (record { name = name.0; body = passed (is_value_byte quote.0) quote.1 }, rest)
 
--- as many as stand there, at most so many
-abbrev pub settings_behind : Option (Setting × List ℕ) → List ℕ → (List ℕ → List Setting × List ℕ) → List Setting × List ℕ
-settings_behind None bytes more = ([], bytes)
-settings_behind (Some first) bytes more = (first.0 ∷ (more first.1).0, (more first.1).1)
+-- as many as are there, at most so many
+abbrev pub raw_attributes_after : Option (RawAttribute × List ℕ) → List ℕ → (List ℕ → List RawAttribute × List ℕ) → List RawAttribute × List ℕ
+raw_attributes_after None bytes more = ([], bytes)
+raw_attributes_after (Some first) bytes more = (first.0 ∷ (more first.1).0, (more first.1).1)
 
-unfoldable pub settings_at : ℕ → List ℕ → List Setting × List ℕ
-settings_at zero bytes = ([], bytes)
-settings_at (suc n) bytes = settings_behind (setting_at bytes) bytes (settings_at n)
+unfoldable pub raw_attributes_at : ℕ → List ℕ → List RawAttribute × List ℕ
+raw_attributes_at zero bytes = ([], bytes)
+raw_attributes_at (suc n) bytes = raw_attributes_after (raw_attribute_at bytes) bytes (raw_attributes_at n)
 
-abbrev pub all_settings_at : List ℕ → List Setting × List ℕ
-all_settings_at bytes = settings_at (suc (length bytes)) bytes
+abbrev pub all_raw_attributes_at : List ℕ → List RawAttribute × List ℕ
+all_raw_attributes_at bytes = raw_attributes_at (suc (length bytes)) bytes
 
 -- ---- the attributes of a tag
 
-unfoldable pub attribute_of : Setting → Option Attribute
+unfoldable pub attribute_of : RawAttribute → Option Attribute
 attribute_of s = do
   name ← text_of s.name
   value ← value_of true s.body
   Some record { name = name; value = value }
 
-unfoldable pub attributes_of : List Setting → Option (List Attribute)
+unfoldable pub attributes_of : List RawAttribute → Option (List Attribute)
 attributes_of [] = Some []
-attributes_of (s ∷ settings) = do
+attributes_of (s ∷ raw_attributes) = do
   attribute ← attribute_of s
-  attributes ← attributes_of settings
+  attributes ← attributes_of raw_attributes
   Some (attribute ∷ attributes)
 
 -- whether no name repeats another, or one of those before
@@ -70,13 +70,13 @@ abbrev pub are_new : List (List ℕ) → List (List ℕ) → Bool
 are_new seen [] = true
 are_new seen (name ∷ names) = not (list_any (bytes_eq name) seen) && are_new (name ∷ seen) names
 
-abbrev pub setting_name : Setting → List ℕ
-setting_name s = s.name
+abbrev pub raw_attribute_name : RawAttribute → List ℕ
+raw_attribute_name s = s.name
 
-unfoldable pub distinct_attributes_of : List Setting → Option (List Attribute)
-distinct_attributes_of settings = if are_new [] (map setting_name settings) then attributes_of settings else None
+unfoldable pub distinct_attributes_of : List RawAttribute → Option (List Attribute)
+distinct_attributes_of raw_attributes = if are_new [] (map raw_attribute_name raw_attributes) then attributes_of raw_attributes else None
 
--- ---- tokens, behind what they begin with
+-- ---- tokens, after what they begin with
 
 -- the end of a tag with this name and these attributes
 abbrev pub tag_closed : List ℕ → List Attribute → List ℕ → Option (Token × List ℕ)
@@ -90,14 +90,14 @@ unfoldable pub tag_at : List ℕ → Option (Token × List ℕ)
 tag_at bytes = do
   name ← name_at bytes
   text ← text_of name.0
-  attributes ← distinct_attributes_of (all_settings_at name.1).0
-  tag_closed text attributes (behind is_space (all_settings_at name.1).1)
+  attributes ← distinct_attributes_of (all_raw_attributes_at name.1).0
+  tag_closed text attributes (beyond is_space (all_raw_attributes_at name.1).1)
 
 unfoldable pub end_tag_at : List ℕ → Option (Token × List ℕ)
 end_tag_at bytes = do
   name ← name_at bytes
   text ← text_of name.0
-  rest ← past 62 (behind is_space name.1)
+  rest ← past 62 (beyond is_space name.1)
   Some (End text, rest)
 
 unfoldable pub comment_at : List ℕ → Option (Token × List ℕ)
@@ -114,8 +114,8 @@ cdata_at bytes = do
 
 unfoldable pub declaration_at : List ℕ → Option (Token × List ℕ)
 declaration_at bytes = do
-  rest ← past_text (codes "?>") (behind is_space (all_settings_at bytes).1)
-  if declare (all_settings_at bytes).0 then Some (Declaration, rest) else None
+  rest ← past_text (codes "?>") (beyond is_space (all_raw_attributes_at bytes).1)
+  if declare (all_raw_attributes_at bytes).0 then Some (Declaration, rest) else None
 
 -- whether nothing or white space comes first
 abbrev pub is_apart : List ℕ → Bool
@@ -136,22 +136,22 @@ instruction_at bytes = do
 unfoldable pub characters_at : List ℕ → Option (Token × List ℕ)
 characters_at bytes = do
   value ← value_of false (passed is_text_byte bytes)
-  if is_none (until (codes "]]>") (passed is_text_byte bytes)) then Some (Characters value, behind is_text_byte bytes) else None
+  if is_none (until (codes "]]>") (passed is_text_byte bytes)) then Some (Characters value, beyond is_text_byte bytes) else None
 
 -- ---- any token
 
--- one way behind what was found, and another where nothing was
-abbrev pub behind_or : Option (List ℕ) → (List ℕ → Option (Token × List ℕ)) → Option (Token × List ℕ) → Option (Token × List ℕ)
-behind_or None way other = other
-behind_or (Some rest) way other = way rest
+-- one way after what was found, and another where nothing was
+abbrev pub after_or : Option (List ℕ) → (List ℕ → Option (Token × List ℕ)) → Option (Token × List ℕ) → Option (Token × List ℕ)
+after_or None way other = other
+after_or (Some rest) way other = way rest
 
--- behind `<`. 63 is `?` and 47 is `/`
+-- after `<`. 63 is `?` and 47 is `/`
 unfoldable pub markup_at : List ℕ → Option (Token × List ℕ)
 markup_at bytes =
-    behind_or (past_text (codes "!--") bytes) comment_at
-    (behind_or (past_text (codes "![CDATA[") bytes) cdata_at
-    (behind_or (past 63 bytes) instruction_at
-    (behind_or (past 47 bytes) end_tag_at
+    after_or (past_text (codes "!--") bytes) comment_at
+    (after_or (past_text (codes "![CDATA[") bytes) cdata_at
+    (after_or (past 63 bytes) instruction_at
+    (after_or (past 47 bytes) end_tag_at
     (tag_at bytes))))
 
 unfoldable pub shape_at : List ℕ → Option (Token × List ℕ)
@@ -169,7 +169,7 @@ before_rest bytes rest = take (length bytes - length rest) bytes
 unfoldable pub is_spelling : List ℕ → Bool
 is_spelling bytes = nat_le (length bytes) spelling_limit && is_legal bytes
 
--- the token at the front, and the bytes behind it
+-- the token at the front, and the bytes after it
 unfoldable pub token_from : List ℕ → Option (Token × List ℕ)
 token_from bytes = do
   found ← shape_at bytes

@@ -10,7 +10,7 @@ pub record IsNumber (base : ℕ) (digits : List ℕ) (character : ℕ) : Type 0 
   pub value : digits_value base digits ≡ character
   pub legal : IsLegalCharacter character
 
--- what stands between `&` and `;`, and the character that it stands for (XML 1.0, productions 66, CharRef,
+-- what is between `&` and `;`, and the character that it represents (XML 1.0, productions 66, CharRef,
 -- and 68, EntityRef). 35 is `#` and 120 is `x`
 pub data IsReference : List ℕ → ℕ → Type 0 where
   less_than : IsReference (codes "lt") 60

@@ -76,35 +76,35 @@ abbrev pub spelling_limit : ℕ
 spelling_limit = 1048576
 
 -- the bytes are a spelling of the token and this rest
-pub record Stands (bytes : List ℕ) (token : Token) (spelling rest : List ℕ) : Type 0 where
+pub record Occurs (bytes : List ℕ) (token : Token) (spelling rest : List ℕ) : Type 0 where
   pub parts : bytes ≡ spelling ++ rest
   pub spells : IsSpelling token spelling
   pub legal : IsLegalText spelling
   pub short : length spelling ≤ spelling_limit
   pub follows : MayFollow token rest
 
--- at offset k of the bytes stands the token, and it ends at offset e
+-- at offset k of the bytes occurs the token, and it ends at offset e
 pub record TokenAt (bytes : List ℕ) (k : ℕ) (token : Token) (e : ℕ) : Type 0 where
   pub inside : k ≤ length bytes
   pub spelling : List ℕ
   pub rest : List ℕ
-  pub stands : Stands (drop k bytes) token spelling rest
+  pub occurs : Occurs (drop k bytes) token spelling rest
   pub end_is : e ≡ k + length spelling
 
--- the tokens stand one after the other from offset k to offset e
+-- the tokens occur one after the other from offset k to offset e
 abbrev pub TokensTo : List ℕ → ℕ → List Token → ℕ → Type 0
 TokensTo bytes k [] e = k ≡ e
 TokensTo bytes k (token ∷ tokens) e = (next : ℕ) × TokenAt bytes k token next × TokensTo bytes next tokens e
 
--- the offset of the first token: behind a byte order mark, where the bytes begin with one
-abbrev pub first_place : List ℕ → ℕ
-first_place bytes = if starts_with nat_eq bytes (0xEF ∷ 0xBB ∷ 0xBF ∷ []) then 3 else 0
+-- the offset of the first token: after a byte order mark, where the bytes begin with one
+abbrev pub first_offset : List ℕ → ℕ
+first_offset bytes = if starts_with nat_eq bytes (0xEF ∷ 0xBB ∷ 0xBF ∷ []) then 3 else 0
 
 -- the tokens of the bytes
 abbrev pub TokensOf : List ℕ → List Token → Type 0
-TokensOf bytes tokens = TokensTo bytes (first_place bytes) tokens (length bytes)
+TokensOf bytes tokens = TokensTo bytes (first_offset bytes) tokens (length bytes)
 
--- at an offset at most one token stands, and its end is determined
+-- at an offset at most one token occurs, and its end is determined
 abbrev pub HasOneToken : Type 0
 HasOneToken =
     (bytes : List ℕ) (k : ℕ) (token other : Token) (e f : ℕ) → TokenAt bytes k token e → TokenAt bytes k other f

@@ -1,10 +1,10 @@
--- Elements with what stands in them, and the tokens that they are written by.
+-- Elements with what is in them, and the tokens that they are written by.
 use Rattle.std.specs.Prelude.{ℕ, suc, max, List, [], ◌∷◌, ◌++◌}
 use Rattle.pnml_grammar.specs.declared.token.Token.{Token}
 use Rattle.pnml_grammar.specs.declared.token.Token.TheVariants as tokens
 use Rattle.pnml_grammar.specs.declared.token.Attribute.{Attribute}
 
--- what may stand in an element (XML 1.0, production 43, content): an element with its children, an element
+-- what may occur in an element (XML 1.0, production 43, content): an element with its children, an element
 -- that is one empty tag, and what is no element
 infixr 20 ◌and◌
 mutual

@@ -4,12 +4,12 @@ use Rattle.std.specs.List.{AllByRecursion}
 use Rattle.net_values.specs.declared.document.Document.{Document}
 use Rattle.net_values.specs.declared.document.Item.{Item}
 use Rattle.net_values.specs.declared.document.Item.TheVariants.{Page, PageEnd, Place, Transition, RefPlace, RefTransition, Arc}
-use Rattle.net_values.specs.Characters.{IsId, IsName}
+use Rattle.net_values.specs.Characters.{IsId, IsNameValue}
 use Rattle.net_values.specs.Items.{is_page, is_place, is_transition, is_arc, is_reference}
 
 -- a name, where there is one
 abbrev pub IsNameIfAny : Option (List ℕ) → Type 0
-IsNameIfAny name = IfSome name IsName
+IsNameIfAny name = IfSome name IsNameValue
 
 -- ids, names, markings and weights in range
 abbrev pub HasValuesInRange : Item → Type 0

@@ -46,15 +46,15 @@ has_values_in_range (Arc arc) =
 abbrev pub start : Walk
 start = record { opened = 0; places = 0; transitions = 0; arcs = 0; references = 0; pages = 0 }
 
--- behind one item more
-abbrev pub behind : Walk → Item → Walk
-behind walk (Page page) = record walk { opened = walk.opened + 1; pages = walk.pages + 1 }
-behind walk PageEnd = record walk { opened = walk.opened - 1 }
-behind walk (Place place) = record walk { places = walk.places + 1 }
-behind walk (Transition transition) = record walk { transitions = walk.transitions + 1 }
-behind walk (RefPlace node) = record walk { references = walk.references + 1 }
-behind walk (RefTransition node) = record walk { references = walk.references + 1 }
-behind walk (Arc arc) = record walk { arcs = walk.arcs + 1 }
+-- after one item more
+abbrev pub beyond : Walk → Item → Walk
+beyond walk (Page page) = record walk { opened = walk.opened + 1; pages = walk.pages + 1 }
+beyond walk PageEnd = record walk { opened = walk.opened - 1 }
+beyond walk (Place place) = record walk { places = walk.places + 1 }
+beyond walk (Transition transition) = record walk { transitions = walk.transitions + 1 }
+beyond walk (RefPlace node) = record walk { references = walk.references + 1 }
+beyond walk (RefTransition node) = record walk { references = walk.references + 1 }
+beyond walk (Arc arc) = record walk { arcs = walk.arcs + 1 }
 
 -- one item more of a kind is within the limits, and an end of a page ends one that is open
 abbrev pub may_count : Walk → Item → Bool
@@ -71,9 +71,9 @@ abbrev pub is_low : Walk → Item → Bool
 is_low walk item = nat_le walk.opened (126 - item_height item)
 
 abbrev pub past : Walk → Item → Option Walk
-past walk item = if is_low walk item && may_count walk item then Some (behind walk item) else None
+past walk item = if is_low walk item && may_count walk item then Some (beyond walk item) else None
 
--- the items can be passed, and no page is open behind them
+-- the items can be passed, and no page is open after them
 abbrev pub walks : Option Walk → List Item → Bool
 walks None items = false
 walks (Some walk) [] = walk.opened == 0

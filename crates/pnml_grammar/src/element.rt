@@ -81,7 +81,7 @@ impl AttributeKind {
     }
 }
 
-/// In what a token stands: around the root, in an element of a kind, or in a part that is skipped. The text
+/// In what a token occurs: around the root, in an element of a kind, or in a part that is skipped. The text
 /// of a name, that of an initial marking and that of an inscription are three.
 #[derive(Clone, Copy, Debug, PartialEq, Eq)]
 pub enum Context {

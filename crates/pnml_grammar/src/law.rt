@@ -3,7 +3,7 @@ ghost use Rattle.pnml_grammar.specs.Documents.{SpellOneDocument};
 ghost use Rattle.pnml_grammar.specs.FirstFault.{HaveOneAnswer};
 ghost use Rattle.pnml_grammar.specs.Tokens.{HasOneToken};
 
-/// At an offset at most one token stands, and its end is determined.
+/// At an offset at most one token occurs, and its end is determined.
 pub fn one_token()
     ensures { HasOneToken }
 {}

@@ -1,6 +1,6 @@
 //! The grammar of the documents that are read: the tokens of PNML's text, XML 1.0 in a narrow profile, what
-//! it means that one stands at an offset, what it means that tokens spell a document, and the one text that
-//! is written for it. At most one token stands at an offset, and bytes spell at most one document or have
+//! it means that one occurs at an offset, what it means that tokens spell a document, and the one text that
+//! is written for it. At most one token occurs at an offset, and bytes spell at most one document or have
 //! one fault.
 #![tactic(auto)]
 

@@ -37,7 +37,7 @@ pub fn find<const N: usize>(table: &Names<N>, name: &[u8]) -> Option<usize>
     find_in(&table.names, name)
 }
 
-/// The same of the names alone.
+/// The same of the names only.
 pub fn find_in(names: &[&'static [u8]], name: &[u8]) -> Option<usize>
     ensures { result ≡ position (λ other. bytes_eq other.now name.now) names.now }
 {

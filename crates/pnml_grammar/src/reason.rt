@@ -1,4 +1,4 @@
-/// Why a document is refused at a place, in the order in which the reasons are tried.
+/// Why a document is refused at an offset, in the order in which the reasons are tried.
 #[derive(Clone, Copy, Debug, PartialEq, Eq)]
 pub enum Reason {
     BadToken,

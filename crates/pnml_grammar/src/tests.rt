@@ -9,7 +9,7 @@ use std::test::Fail;
 // A text is a piece, so many times.
 type Times<'a> = (&'a str, usize);
 
-// A document whose net and items have one id and one name. So many pages stand in one another, and in the
+// A document whose net and items have one id and one name. So many pages are in one another, and in the
 // innermost a shape, of which each letter is an item, as `item` tells.
 #[derive(Clone, Copy)]
 struct Row<'a> {

@@ -14,7 +14,7 @@ pub enum Token {
     Characters(Text),
 }
 
-/// The attributes of a tag, in the order in which they stand.
+/// The attributes of a tag, in the order in which they occur.
 pub type Attributes = List<Attribute>;
 
 /// An attribute of a tag (XML 1.0, production 41).

@@ -32,7 +32,7 @@ fn are_valued(items: &[Item]) -> bool
             return false;
         }
         match walk.past(item) {
-            Some(behind) => walk = behind,
+            Some(beyond) => walk = beyond,
             None => return false,
         }
     }

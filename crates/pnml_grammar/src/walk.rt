@@ -43,7 +43,7 @@ impl Walk {
         }
     }
 
-    /// Behind one item more. There is no way past the end of a page where none is open, nor past an item that
+    /// After one item more. There is no way past the end of a page where none is open, nor past an item that
     /// is one too many or too deep.
     pub(crate) fn past(self, item: &Item) -> Option<Walk>
         ensures { result ≡ past self item.now }

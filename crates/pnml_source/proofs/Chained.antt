@@ -33,6 +33,6 @@ pub write_follows : (a b c : Option (List ℕ)) (at end : ℕ) (bytes : List ℕ
 write_follows a b c at end bytes h first second =
     subst (Appends a c) (front_follows at end bytes h) (Appends-trans a b c _ _ first second)
 
--- where nothing more is written, the prefix stands
+-- where nothing more is written, the prefix occurs
 pub write_stops : (a b c : Option (List ℕ)) (at : ℕ) (bytes : List ℕ) → Appends a b (take at bytes) → Keeps b c → AppendsFront a c bytes
 write_stops a b c at bytes first second = (at, Appends-kept a b c (take at bytes) first second)

@@ -1,11 +1,11 @@
 -- Faults of devices, told by a count that never falls.
 use Rattle.std.specs.Prelude.{◌≡◌, ℕ, ◌+◌, ◌-◌, ◌^◌, ◌≤◌, min, Result, OnOk, OnErr}
 
--- the count after one more fault: it stands still at its last value
+-- the count after one more fault: it occurs still at its last value
 abbrev pub next_number : ℕ → ℕ
 next_number n = min (n + 1) (2 ^ 64 - 1)
 
--- the count rose, or stands at its last value
+-- the count rose, or occurs at its last value
 abbrev pub Rose : ℕ → ℕ → Type 0
 Rose before now = next_number before ≤ now
 

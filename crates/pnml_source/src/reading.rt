@@ -60,7 +60,7 @@ pub fn read_all<S: Source>(
     ensures too_long_kept { IfErr result (λ e. e ≡ TooLong →
         S.faults source.new ≡ S.faults source.old) }
 
-    // Want of memory stands for no other answer.
+    // Out of memory represents no other answer.
     ensures no_memory { IfErr result (λ e. e ≡ NoMemory →
         TakesAtMost (S.left source.old) (S.left source.new) limit) }
     ensures no_memory_kept { IfErr result (λ e. e ≡ NoMemory →

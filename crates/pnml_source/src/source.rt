@@ -14,7 +14,7 @@ pub trait Source {
     ghost faults: { Self → ℕ };
 
     /// Puts the next bytes into the front of `buf` and gives their number, which is 0 for a nonempty
-    /// `buf` at the end of input alone. A `Failed` raises the count, and may have taken bytes.
+    /// `buf` at the end of input only. A `Failed` raises the count, and may have taken bytes.
     fn read(&mut self, buf: &mut [u8]) -> Result<usize, Failed>
         ensures bound { ReadsAtMost result buf.new }
         ensures bytes { GivesNext (left self.old) (left self.new) result buf.new }

@@ -28,7 +28,7 @@ pub fn write_all<O: Sink>(sink: &mut O, bytes: &[u8]) -> Result<(), WriteFault>
     Ok(())
 }
 
-// Writes once what stands from `at` on, and gives where the rest starts.
+// Writes once what occurs from `at` on, and gives where the rest starts.
 fn write_piece<O: Sink>(sink: &mut O, bytes: &[u8], at: usize) -> Result<usize, WriteFault>
     requires { at < length bytes.now }
     ensures within { IfOk result (λ end. end ≤ length bytes.now) }

@@ -2,7 +2,7 @@
 pub mod Prefixes
 pub mod Places
 pub mod Texts
-pub mod Settings
+pub mod RawAttributes
 pub mod AttributeLists
 pub mod NamesSeen
 pub mod Cuts

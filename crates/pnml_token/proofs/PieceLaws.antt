@@ -1,4 +1,4 @@
--- One part of a value at a time: a run stands for itself, and what stops it is a line end, a tab or a
+-- One part of a value at a time: a run represents itself, and what stops it is a line end, a tab or a
 -- reference. Line ends and spaces are resolved in the whole text first, and a run and a reference keep
 -- their bytes in that.
 use Rattle.std.proofs.Common.{◌≡◌, ℕ, suc, ◌<◌, ◌≤◌, Bool, true, false, cond, List, [], ◌∷◌, ◌++◌, Option, Some, None, length, get_or, drop, map, refl, sym, ap, subst, ◌∙◌, arith, append_assoc, inl, inr, ◌⊎◌, length-append}
@@ -7,10 +7,10 @@ use Rattle.std.proofs.lemmas.Bool.{cases_Bool, ne_eqb, eqb-true, not-true, not-f
 use Rattle.std.proofs.lemmas.Bool.Decides.{nat_tests}
 use Rattle.std.proofs.lemmas.Str.{encode_ascii}
 use Rattle.pnml_grammar.specs.Characters.{Each}
-use Rattle.pnml_grammar.specs.Values.{lines_ended, lines_ended_behind, spaced}
-use Rattle.pnml_grammar.specs.Runs.{◌>>=◌, passed, behind, past}
-use Rattle.pnml_grammar.specs.Resolving.{referenced, is_reference_byte, with_front, resolved, resolved_behind, literal}
-use Rattle.pnml_grammar.proofs.RunLaws.{bind_some, some_pair_is, past_found, Stops, passed-behind, passed_each, behind_stops}
+use Rattle.pnml_grammar.specs.Values.{lines_ended, lines_ended_after, spaced}
+use Rattle.pnml_grammar.specs.Runs.{◌>>=◌, passed, beyond, past}
+use Rattle.pnml_grammar.specs.Resolving.{referenced, is_reference_byte, with_front, resolved, resolved_after, literal}
+use Rattle.pnml_grammar.proofs.RunLaws.{bind_some, some_pair_is, past_found, Stops, passed-beyond, passed_each, after_stops}
 use Rattle.pnml_grammar.proofs.ValueLaws.{reference_passed}
 use Rattle.pnml_token.specs.declared.class.Class.TheVariants.{Plain, Line}
 use Rattle.pnml_token.specs.declared.miss.Miss.{Miss}
@@ -49,7 +49,7 @@ literal_run spaces (b ∷ bs) rest each =
     let p = plain_is spaces b each.0 in
     literal_plain spaces b (bs ++ rest) p.0 p.2 ∙ ap (λ (t : List ℕ). b ∷ t) (literal_run spaces bs rest each.1)
 
-returned_feed : (bs : List ℕ) → lines_ended_behind true bs ≡ lines_ended (past_feed bs)
+returned_feed : (bs : List ℕ) → lines_ended_after true bs ≡ lines_ended (past_feed bs)
 returned_feed [] = refl
 returned_feed (b ∷ bs) =
     elim (cases_Bool (b == 10)) [
@@ -89,14 +89,14 @@ some_length : (bytes : List ℕ) → (length bytes == 0) ≡ false → 1 ≤ len
 some_length bytes e = grind (arith, nat_tests)
 
 pub run_piece : (spaces : Bool) (text : List ℕ) → (length (passed (in_class (Plain spaces)) text) == 0) ≡ false
-    → IsPieceOf spaces text (passed (in_class (Plain spaces)) text) (behind (in_class (Plain spaces)) text)
+    → IsPieceOf spaces text (passed (in_class (Plain spaces)) text) (beyond (in_class (Plain spaces)) text)
 run_piece spaces text some =
     let p = in_class (Plain spaces) in
-    let whole = passed-behind p text in
+    let whole = passed-beyond p text in
     let each = passed_each p text in (
-      omega (arith, ap length whole, length-append (passed p text) (behind p text), some_length (passed p text) some),
-      ap (λ (t : List ℕ). resolved (literal spaces t)) (sym whole) ∙ ap resolved (literal_run spaces (passed p text) (behind p text) each)
-          ∙ resolved_run spaces (passed p text) (literal spaces (behind p text)) each,
+      omega (arith, ap length whole, length-append (passed p text) (beyond p text), some_length (passed p text) some),
+      ap (λ (t : List ℕ). resolved (literal spaces t)) (sym whole) ∙ ap resolved (literal_run spaces (passed p text) (beyond p text) each)
+          ∙ resolved_run spaces (passed p text) (literal spaces (beyond p text)) each,
     )
 
 suc_is_some : (n : ℕ) → (suc n == 0) ≡ false
@@ -155,16 +155,16 @@ references_are_plain spaces [] each = tt
 references_are_plain spaces (b ∷ bs) each = (reference_is_plain spaces b each.0, references_are_plain spaces bs each.1)
 
 body_passed : (spaces : Bool) (text : List ℕ)
-    → resolved_behind [] (literal spaces text) ≡ resolved_behind (passed is_reference_byte text) (literal spaces (behind is_reference_byte text))
+    → resolved_after [] (literal spaces text) ≡ resolved_after (passed is_reference_byte text) (literal spaces (beyond is_reference_byte text))
 body_passed spaces text =
     let body = passed is_reference_byte text in
-    let rest = behind is_reference_byte text in
+    let rest = beyond is_reference_byte text in
     let each = passed_each is_reference_byte text in
-    ap (λ (t : List ℕ). resolved_behind [] (literal spaces t)) (sym (passed-behind is_reference_byte text))
-    ∙ ap (resolved_behind []) (literal_run spaces body rest (references_are_plain spaces body each))
+    ap (λ (t : List ℕ). resolved_after [] (literal spaces t)) (sym (passed-beyond is_reference_byte text))
+    ∙ ap (resolved_after []) (literal_run spaces body rest (references_are_plain spaces body each))
     ∙ reference_passed [] body (literal spaces rest) each
 
--- what is read behind the bytes of a reference
+-- what is read after the bytes of a reference
 abbrev ended_with : List ℕ → List ℕ → Option (List ℕ × List ℕ)
 ended_with body rest = past 59 rest >>= λ t. referenced body >>= λ character. Some (encode_utf8 character, t)
 
@@ -172,35 +172,35 @@ semicolon_literal : (spaces : Bool) (bs : List ℕ) → literal spaces (59 ∷ b
 semicolon_literal true bs = refl
 semicolon_literal false bs = refl
 
-no_end : (spaces : Bool) (body : List ℕ) (b : ℕ) (bs : List ℕ) → is_reference_byte b ≡ false → (b == 59) ≡ false → resolved_behind body (literal spaces (b ∷ bs)) ≡ None
+no_end : (spaces : Bool) (body : List ℕ) (b : ℕ) (bs : List ℕ) → is_reference_byte b ≡ false → (b == 59) ≡ false → resolved_after body (literal spaces (b ∷ bs)) ≡ None
 no_end spaces body b bs e f =
     elim (cases_Bool (b == 13)) [
-      | inl return ↦ ap (λ (x : ℕ). resolved_behind body (literal spaces (x ∷ bs))) (eqb-true b 13 return) ∙ return_ends spaces
+      | inl return ↦ ap (λ (x : ℕ). resolved_after body (literal spaces (x ∷ bs))) (eqb-true b 13 return) ∙ return_ends spaces
       | inr other ↦
           elim (cases_Bool (spaces && (b == 9 || b == 10))) [
-            | inl space ↦ let p = and_parts spaces (b == 9 || b == 10) space in subst (λ s. resolved_behind body (literal s (b ∷ bs)) ≡ None) (sym p.0) (space_ends p.1 other)
-            | inr plain ↦ ap (resolved_behind body) (literal_plain spaces b bs other plain) ∙ rw (f, e) refl
+            | inl space ↦ let p = and_parts spaces (b == 9 || b == 10) space in subst (λ s. resolved_after body (literal s (b ∷ bs)) ≡ None) (sym p.0) (space_ends p.1 other)
+            | inr plain ↦ ap (resolved_after body) (literal_plain spaces b bs other plain) ∙ rw (f, e) refl
           ]
     ]
   where
-    return_ends : (spaces : Bool) → resolved_behind body (literal spaces (13 ∷ bs)) ≡ None
+    return_ends : (spaces : Bool) → resolved_after body (literal spaces (13 ∷ bs)) ≡ None
     return_ends true = refl
     return_ends false = refl
 
-    space_ends : (b == 9 || b == 10) ≡ true → (b == 13) ≡ false → resolved_behind body (literal true (b ∷ bs)) ≡ None
+    space_ends : (b == 9 || b == 10) ≡ true → (b == 13) ≡ false → resolved_after body (literal true (b ∷ bs)) ≡ None
     space_ends h k = rw (k, h) refl
 
-semicolon_none : (body xs : List ℕ) → referenced body ≡ None → resolved_behind body (59 ∷ xs) ≡ None
+semicolon_none : (body xs : List ℕ) → referenced body ≡ None → resolved_after body (59 ∷ xs) ≡ None
 semicolon_none body xs e = rw e refl
 
-semicolon_some : (body xs : List ℕ) (c : ℕ) → referenced body ≡ Some c → resolved_behind body (59 ∷ xs) ≡ with_front (encode_utf8 c) (resolved xs)
+semicolon_some : (body xs : List ℕ) (c : ℕ) → referenced body ≡ Some c → resolved_after body (59 ∷ xs) ≡ with_front (encode_utf8 c) (resolved xs)
 semicolon_some body xs c e = rw e refl
 
 bind_none : {A B : Type 0} (r : Option A) (f : A → Option B) → (r >>= f) ≡ None → (r ≡ None) ⊎ ((x : A) × (r ≡ Some x) × (f x ≡ None))
 bind_none None f e = inl refl
 bind_none (Some x) f e = inr (x, refl, e)
 
-ended_none : (spaces : Bool) (body rest : List ℕ) → Stops is_reference_byte rest → ended_with body rest ≡ None → resolved_behind body (literal spaces rest) ≡ None
+ended_none : (spaces : Bool) (body rest : List ℕ) → Stops is_reference_byte rest → ended_with body rest ≡ None → resolved_after body (literal spaces rest) ≡ None
 ended_none true body [] stops e = refl
 ended_none false body [] stops e = refl
 ended_none spaces body (b ∷ bs) stops e =
@@ -209,7 +209,7 @@ ended_none spaces body (b ∷ bs) stops e =
           let at : (referenced body >>= (λ character. Some (encode_utf8 character, bs))) ≡ None = sym (ended semicolon) ∙ e in
           elim (bind_none (referenced body) (λ character. Some (encode_utf8 character, bs)) at) [
             | inl none ↦
-                ap (λ (x : ℕ). resolved_behind body (literal spaces (x ∷ bs))) (eqb-true b 59 semicolon) ∙ ap (resolved_behind body) (semicolon_literal spaces bs)
+                ap (λ (x : ℕ). resolved_after body (literal spaces (x ∷ bs))) (eqb-true b 59 semicolon) ∙ ap (resolved_after body) (semicolon_literal spaces bs)
                 ∙ semicolon_none body (literal spaces bs) none
             | inr some ↦ let h = some.2 in absurd cc
           ]
@@ -219,19 +219,19 @@ ended_none spaces body (b ∷ bs) stops e =
     ended : (b == 59) ≡ true → ended_with body (b ∷ bs) ≡ (referenced body >>= (λ character. Some (encode_utf8 character, bs)))
     ended h = rw h refl
 
-ended_some : (spaces : Bool) (body rest value left : List ℕ) → ended_with body rest ≡ Some (value, left) → (length left < length rest) × (resolved_behind body (literal spaces rest) ≡ with_front value (resolved (literal spaces left)))
+ended_some : (spaces : Bool) (body rest value left : List ℕ) → ended_with body rest ≡ Some (value, left) → (length left < length rest) × (resolved_after body (literal spaces rest) ≡ with_front value (resolved (literal spaces left)))
 ended_some spaces body [] value left e = absurd cc
 ended_some spaces body (b ∷ bs) value left e =
     let w = bind_some (past 59 (b ∷ bs)) _ (value, left) e in
     let found = past_found 59 (b ∷ bs) w.0 w.1 in
     let v = bind_some (referenced body) _ (value, left) w.2 in
     let p = some_pair_is (encode_utf8 v.0) value w.0 left v.2 in
-    let one = ap (λ (t : List ℕ). resolved_behind body (literal spaces t)) found ∙ ap (resolved_behind body) (semicolon_literal spaces w.0) ∙ semicolon_some body (literal spaces w.0) v.0 v.1 in (
+    let one = ap (λ (t : List ℕ). resolved_after body (literal spaces t)) found ∙ ap (resolved_after body) (semicolon_literal spaces w.0) ∙ semicolon_some body (literal spaces w.0) v.0 v.1 in (
       omega (arith, ap length found, ap length p.1),
       one ∙ ap (λ (x : List ℕ). with_front x (resolved (literal spaces w.0))) p.0 ∙ ap (λ (t : List ℕ). with_front value (resolved (literal spaces t))) p.1,
     )
 
-ampersand_literal : (spaces : Bool) (bs : List ℕ) → resolved (literal spaces (38 ∷ bs)) ≡ resolved_behind [] (literal spaces bs)
+ampersand_literal : (spaces : Bool) (bs : List ℕ) → resolved (literal spaces (38 ∷ bs)) ≡ resolved_after [] (literal spaces bs)
 ampersand_literal true bs = refl
 ampersand_literal false bs = refl
 
@@ -239,8 +239,8 @@ pub reference_piece : (spaces : Bool) (text value rest : List ℕ) → 0 < lengt
 unfolding reference_at
 reference_piece spaces [] value rest some e at = absurd (omega arith)
 reference_piece spaces (b ∷ bs) value rest some e at =
-    let w = ended_some spaces (passed is_reference_byte bs) (behind is_reference_byte bs) value rest at in (
-      omega (arith, w.0, ap length (passed-behind is_reference_byte bs), length-append (passed is_reference_byte bs) (behind is_reference_byte bs)),
+    let w = ended_some spaces (passed is_reference_byte bs) (beyond is_reference_byte bs) value rest at in (
+      omega (arith, w.0, ap length (passed-beyond is_reference_byte bs), length-append (passed is_reference_byte bs) (beyond is_reference_byte bs)),
       ap (λ (x : ℕ). resolved (literal spaces (x ∷ bs))) e ∙ ampersand_literal spaces bs ∙ body_passed spaces bs ∙ w.1,
     )
 
@@ -250,7 +250,7 @@ reference_miss spaces text NoMemory some e at = tt
 reference_miss spaces [] NoToken some e at = absurd (omega arith)
 reference_miss spaces (b ∷ bs) NoToken some e at =
     ap (λ (x : ℕ). resolved (literal spaces (x ∷ bs))) e ∙ ampersand_literal spaces bs ∙ body_passed spaces bs
-    ∙ ended_none spaces (passed is_reference_byte bs) (behind is_reference_byte bs) (behind_stops is_reference_byte bs) at
+    ∙ ended_none spaces (passed is_reference_byte bs) (beyond is_reference_byte bs) (after_stops is_reference_byte bs) at
 
 -- ---- lines
 
@@ -261,12 +261,12 @@ lines_run : (run rest : List ℕ) → Each (in_class Line) run → lines_ended (
 lines_run [] rest each = refl
 lines_run (b ∷ bs) rest each = rw (line_is b each.0) (ap (λ (t : List ℕ). b ∷ t) (lines_run bs rest each.1))
 
-pub run_line : (text : List ℕ) → (length (passed (in_class Line) text) == 0) ≡ false → IsLineOf text (passed (in_class Line) text) (behind (in_class Line) text)
+pub run_line : (text : List ℕ) → (length (passed (in_class Line) text) == 0) ≡ false → IsLineOf text (passed (in_class Line) text) (beyond (in_class Line) text)
 run_line text some =
     let p = in_class Line in
-    let whole = passed-behind p text in (
-      omega (arith, ap length whole, length-append (passed p text) (behind p text), some_length (passed p text) some),
-      ap lines_ended (sym whole) ∙ lines_run (passed p text) (behind p text) (passed_each p text),
+    let whole = passed-beyond p text in (
+      omega (arith, ap length whole, length-append (passed p text) (beyond p text), some_length (passed p text) some),
+      ap lines_ended (sym whole) ∙ lines_run (passed p text) (beyond p text) (passed_each p text),
     )
 
 pub return_line : (text : List ℕ) → 0 < length text → get_or text 0 0 ≡ 13 → IsLineOf text (encode_utf8 10) (past_feed (drop 1 text))

@@ -1,11 +1,11 @@
--- Cutting at the length of a run gives the run and what stands behind it. The first byte that the class lacks
+-- Cutting at the length of a run gives the run and what follows it. The first byte that the class lacks
 -- tells that length.
 use Rattle.std.proofs.Common.{◌≡◌, ℕ, suc, ◌+◌, Bool, true, false, cond, List, [], ◌∷◌, Option, Some, None, take, drop, length, get_or, refl, sym, ap, arith}
 use Rattle.std.specs.Prelude.{not, unwrap_or}
 use Rattle.std.specs.List.{prefix_len}
 use Rattle.std.proofs.lemmas.List.Sums.{prefix_len_is}
 use Rattle.memchr.specs.Find.{IsFirstByte}
-use Rattle.pnml_grammar.specs.Runs.{passed, behind}
+use Rattle.pnml_grammar.specs.Runs.{passed, beyond}
 
 one_more : (n : ℕ) → 1 + n ≡ suc n
 one_more n = omega arith
@@ -18,10 +18,10 @@ take_prefix p (x ∷ xs) =
       | false ↦ refl
     ]
 
-pub drop_prefix : (p : ℕ → Bool) (xs : List ℕ) → drop (prefix_len p xs) xs ≡ behind p xs
+pub drop_prefix : (p : ℕ → Bool) (xs : List ℕ) → drop (prefix_len p xs) xs ≡ beyond p xs
 drop_prefix p [] = refl
 drop_prefix p (x ∷ xs) =
-    elim (p x) as (λ b. drop (cond b (1 + prefix_len p xs) 0) (x ∷ xs) ≡ cond b (behind p xs) (x ∷ xs)) [
+    elim (p x) as (λ b. drop (cond b (1 + prefix_len p xs) 0) (x ∷ xs) ≡ cond b (beyond p xs) (x ∷ xs)) [
       | true ↦ rw (one_more (prefix_len p xs)) (drop_prefix p xs)
       | false ↦ refl
     ]

@@ -1,10 +1,10 @@
--- A token that stands at the front of the bytes stands there in a window of one byte more than a spelling
+-- A token that occurs at the front of the bytes is there in a window of one byte more than a spelling
 -- may have, and the other way round: whether characters end is told by that byte.
 use Rattle.std.proofs.Common.{◌≡◌, ℕ, zero, suc, ◌+◌, ◌-◌, ◌≤◌, min, List, [], ◌∷◌, ◌++◌, Some, None, Ok, Err, length, take, drop, refl, sym, ap, subst, ◌∙◌, arith, append_assoc, length-append}
 use Rattle.std.proofs.lemmas.List.{take-append-drop, length-take, drop_all}
 use Rattle.pnml_grammar.specs.declared.token.Token.{Token}
 use Rattle.pnml_grammar.specs.declared.token.Token.TheVariants.{Declaration, Comment, Instruction, Cdata, Start, Empty, End, Characters}
-use Rattle.pnml_grammar.specs.Tokens.{IsTextEnd, MayFollow, Stands, spelling_limit}
+use Rattle.pnml_grammar.specs.Tokens.{IsTextEnd, MayFollow, Occurs, spelling_limit}
 use Rattle.pnml_grammar.specs.Reading.{shape_at, token_from}
 use Rattle.pnml_grammar.proofs.TokenLaws.{shape_found, token_is, token_found}
 use Rattle.pnml_token.specs.declared.miss.Miss.{Miss}
@@ -60,17 +60,17 @@ follow_less (End name) n rest follows = tt
 abbrev window : List ℕ → ℕ
 window bytes = min (length bytes) (spelling_limit + 1)
 
-stands_whole : (bytes : List ℕ) (token : Token) (spelling rest : List ℕ) → Stands (take (window bytes) bytes) token spelling rest
-    → Stands bytes token spelling (rest ++ drop (window bytes) bytes)
-stands_whole bytes token spelling rest stands =
+occurs_whole : (bytes : List ℕ) (token : Token) (spelling rest : List ℕ) → Occurs (take (window bytes) bytes) token spelling rest
+    → Occurs bytes token spelling (rest ++ drop (window bytes) bytes)
+occurs_whole bytes token spelling rest occurs =
     let n = window bytes in
     let parts : bytes ≡ spelling ++ (rest ++ drop n bytes) =
-    sym (take-append-drop n bytes) ∙ ap (λ (t : List ℕ). t ++ drop n bytes) stands.parts ∙ append_assoc spelling rest (drop n bytes)
+    sym (take-append-drop n bytes) ∙ ap (λ (t : List ℕ). t ++ drop n bytes) occurs.parts ∙ append_assoc spelling rest (drop n bytes)
     in
     let none : rest ≡ [] → drop n bytes ≡ [] = λ empty.
-    drop_all n bytes (omega (arith, stands.short, length-take n bytes, ap length stands.parts, length-append spelling rest, ap length empty))
+    drop_all n bytes (omega (arith, occurs.short, length-take n bytes, ap length occurs.parts, length-append spelling rest, ap length empty))
     in
-    record { parts = parts; spells = stands.spells; legal = stands.legal; short = stands.short; follows = follow_more token rest (drop n bytes) stands.follows none }
+    record { parts = parts; spells = occurs.spells; legal = occurs.legal; short = occurs.short; follows = follow_more token rest (drop n bytes) occurs.follows none }
 
 take_parts : (n : ℕ) (xs ys : List ℕ) → length xs ≤ n → take n (xs ++ ys) ≡ xs ++ take (n - length xs) ys
 take_parts n [] ys le = let same : n ≡ n - 0 = omega arith in ap (λ k. take k ys) same
@@ -79,33 +79,33 @@ take_parts (suc n) (x ∷ xs) ys le =
     let same : n - length xs ≡ suc n - suc (length xs) = omega arith in
     ap (λ (t : List ℕ). x ∷ t) (take_parts n xs ys (omega arith) ∙ ap (λ k. xs ++ take k ys) same)
 
-stands_within : (bytes : List ℕ) (token : Token) (spelling rest : List ℕ) → Stands bytes token spelling rest
-    → Stands (take (window bytes) bytes) token spelling (take (window bytes - length spelling) rest)
-stands_within bytes token spelling rest stands =
+occurs_within : (bytes : List ℕ) (token : Token) (spelling rest : List ℕ) → Occurs bytes token spelling rest
+    → Occurs (take (window bytes) bytes) token spelling (take (window bytes - length spelling) rest)
+occurs_within bytes token spelling rest occurs =
     let n = window bytes in
-    let fits : length spelling ≤ n = omega (arith, stands.short, ap length stands.parts, length-append spelling rest) in
+    let fits : length spelling ≤ n = omega (arith, occurs.short, ap length occurs.parts, length-append spelling rest) in
     record {
-      parts = ap (take n) stands.parts ∙ take_parts n spelling rest fits;
-      spells = stands.spells;
-      legal = stands.legal;
-      short = stands.short;
-      follows = follow_less token (n - length spelling) rest stands.follows;
+      parts = ap (take n) occurs.parts ∙ take_parts n spelling rest fits;
+      spells = occurs.spells;
+      legal = occurs.legal;
+      short = occurs.short;
+      follows = follow_less token (n - length spelling) rest occurs.follows;
     }
 
 pub window_found : (bytes : List ℕ) (n : ℕ) (token : Token) (rest : List ℕ) → n ≡ window bytes → token_from (take n bytes) ≡ Some (token, rest)
     → Finds (Ok (token, length (take n bytes) - length rest)) bytes
 window_found bytes n token rest is e =
     let found = token_found (take n bytes) token rest e in
-    let stands = subst (λ k. Stands (take k bytes) token found.0 rest) is found.1 in (
+    let occurs = subst (λ k. Occurs (take k bytes) token found.0 rest) is found.1 in (
       found.0,
       rest ++ drop (window bytes) bytes,
-      stands_whole bytes token found.0 rest stands,
+      occurs_whole bytes token found.0 rest occurs,
       omega (arith, ap length found.1.parts, length-append found.0 rest),
     )
 
 pub window_missed : (bytes : List ℕ) (n : ℕ) (miss : Miss) → n ≡ window bytes → Misses miss (token_from (take n bytes)) → Finds (Err miss) bytes
 window_missed bytes n misses.NoMemory is e = tt
-window_missed bytes n NoToken is e = λ token spelling rest stands.
-    let some = token_is (take (window bytes) bytes) token spelling (take (window bytes - length spelling) rest) (stands_within bytes token spelling rest stands) in
+window_missed bytes n NoToken is e = λ token spelling rest occurs.
+    let some = token_is (take (window bytes) bytes) token spelling (take (window bytes - length spelling) rest) (occurs_within bytes token spelling rest occurs) in
     let none : token_from (take (window bytes) bytes) ≡ None = subst (λ k. token_from (take k bytes) ≡ None) is e in
     absurd cc

@@ -1,7 +1,7 @@
 -- The parts of a value, each from the front of what is left.
 use Rattle.std.specs.Prelude.{◌≡◌, ℕ, ◌==◌, ◌<◌, if◌then◌else◌, Bool, List, [], ◌∷◌, ◌++◌, Option, Some, length, encode_utf8}
 use Rattle.pnml_grammar.specs.Values.{lines_ended}
-use Rattle.pnml_grammar.specs.Runs.{◌>>=◌, passed, behind, past}
+use Rattle.pnml_grammar.specs.Runs.{◌>>=◌, passed, beyond, past}
 use Rattle.pnml_grammar.specs.Resolving.{referenced, is_reference_byte, with_front, resolved, literal}
 use Rattle.pnml_token.specs.declared.miss.Miss.{Miss}
 use Rattle.pnml_token.specs.declared.piece.Piece.{Piece}
@@ -26,14 +26,14 @@ IsMissOf spaces text miss = Misses miss (resolved (literal spaces text))
 abbrev pub IsLineOf : List ℕ → List ℕ → List ℕ → Type 0
 IsLineOf text value rest = (length rest < length text) × (lines_ended text ≡ value ++ lines_ended rest)
 
--- what stands behind a line feed, if one comes first
+-- what follows a line feed, if one comes first
 abbrev pub past_feed : List ℕ → List ℕ
 past_feed [] = []
 past_feed (byte ∷ bytes) = if byte == 10 then bytes else byte ∷ bytes
 
--- what a reference stands for, and what stands behind it; `&` came before
+-- what a reference represents, and what follows it; `&` came before
 unfoldable pub reference_at : List ℕ → Option (List ℕ × List ℕ)
 reference_at bytes = do
-  rest ← past 59 (behind is_reference_byte bytes)
+  rest ← past 59 (beyond is_reference_byte bytes)
   character ← referenced (passed is_reference_byte bytes)
   Some (encode_utf8 character, rest)

@@ -1,7 +1,7 @@
 -- What a step or a fault says.
 use Rattle.std.specs.Prelude.{◌≡◌, ℕ, List, length, Result, Ok, Err}
 use Rattle.pnml_grammar.specs.declared.token.Token.{Token}
-use Rattle.pnml_grammar.specs.Tokens.{Stands}
+use Rattle.pnml_grammar.specs.Tokens.{Occurs}
 use Rattle.pnml_token.specs.declared.miss.Miss.{Miss}
 use Rattle.pnml_token.specs.declared.miss.Miss.TheVariants as misses
 use Rattle.pnml_token.specs.declared.miss.Miss.TheVariants.{NoToken}
@@ -29,8 +29,8 @@ IfBadToken NoMemory P = Unit
 abbrev pub IsEndIfAny : Result Step TokenFault → Type 0
 IsEndIfAny r = r ≡ Ok steps.End
 
--- the token that stands at the front of the bytes, with the length of its spelling; or none does
+-- the token that occurs at the front of the bytes, with the length of its spelling; or none does
 abbrev pub Finds : Result (Token × ℕ) Miss → List ℕ → Type 0
-Finds (Ok found) bytes = (spelling : List ℕ) × (rest : List ℕ) × Stands bytes found.0 spelling rest × (found.1 ≡ length spelling)
-Finds (Err NoToken) bytes = (token : Token) (spelling rest : List ℕ) → Stands bytes token spelling rest → ⊥
+Finds (Ok found) bytes = (spelling : List ℕ) × (rest : List ℕ) × Occurs bytes found.0 spelling rest × (found.1 ≡ length spelling)
+Finds (Err NoToken) bytes = (token : Token) (spelling rest : List ℕ) → Occurs bytes token spelling rest → ⊥
 Finds (Err misses.NoMemory) bytes = Unit

@@ -1,10 +1,10 @@
 -- A setting without where its bytes lie in memory.
 use Rattle.std.specs.Prelude.{List, map}
-use Rattle.pnml_grammar.specs.Declarations.{Setting}
-use Rattle.pnml_token.specs.declared.setting.Setting.{Setting as Lent}
+use Rattle.pnml_grammar.specs.Declarations.{RawAttribute}
+use Rattle.pnml_token.specs.declared.raw_attribute.RawAttribute.{RawAttribute as Lent}
 
-abbrev pub view : Lent → Setting
+abbrev pub view : Lent → RawAttribute
 view s = record { name = s.name.now; body = s.body.now }
 
-abbrev pub views : List Lent → List Setting
-views settings = map view settings
+abbrev pub views : List Lent → List RawAttribute
+views raw_attributes = map view raw_attributes

@@ -5,7 +5,7 @@ ghost use Rattle.pnml_token.specs.Views.{view, views};
 
 use crate::distinct::are_distinct;
 use crate::miss::Miss;
-use crate::setting::Setting;
+use crate::raw_attribute::RawAttribute;
 use crate::text::text_of;
 use crate::value::value_of;
 use pnml_grammar::{Attribute, Attributes};
@@ -15,32 +15,32 @@ use std::alloc::Global;
 #[tactic(auto, unfolding(pnml_grammar::specs::Reading::distinct_attributes_of))]
 pub(crate) fn distinct_attributes_of(
     alloc: Global,
-    settings: &[Setting<'_>],
+    raw_attributes: &[RawAttribute<'_>],
 ) -> Result<Attributes, Miss>
-    ensures { Gives (λ attributes. attributes) result (distinct_attributes_of (views settings.now)) }
+    ensures { Gives (λ attributes. attributes) result (distinct_attributes_of (views raw_attributes.now)) }
 {
-    if are_distinct(alloc, settings)? {
-        attributes_of(alloc, settings)
+    if are_distinct(alloc, raw_attributes)? {
+        attributes_of(alloc, raw_attributes)
     } else {
         Err(Miss::NoToken)
     }
 }
 
-fn attributes_of(alloc: Global, settings: &[Setting<'_>]) -> Result<Attributes, Miss>
-    ensures { Gives (λ attributes. attributes) result (attributes_of (views settings.now)) }
+fn attributes_of(alloc: Global, raw_attributes: &[RawAttribute<'_>]) -> Result<Attributes, Miss>
+    ensures { Gives (λ attributes. attributes) result (attributes_of (views raw_attributes.now)) }
 {
     let mut attributes = Attributes::new(alloc);
-    for setting in settings {
-        attributes.push(attribute_of(alloc, setting)?)?;
+    for raw_attribute in raw_attributes {
+        attributes.push(attribute_of(alloc, raw_attribute)?)?;
     }
     Ok(attributes)
 }
 
 #[tactic(auto, unfolding(pnml_grammar::specs::Reading::attribute_of))]
-fn attribute_of(alloc: Global, setting: &Setting<'_>) -> Result<Attribute, Miss>
-    ensures { Gives (λ attribute. attribute) result (attribute_of (view setting.now)) }
+fn attribute_of(alloc: Global, raw_attribute: &RawAttribute<'_>) -> Result<Attribute, Miss>
+    ensures { Gives (λ attribute. attribute) result (attribute_of (view raw_attribute.now)) }
 {
-    let name = text_of(alloc, setting.name)?;
-    let value = value_of(alloc, true, setting.body)?;
+    let name = text_of(alloc, raw_attribute.name)?;
+    let value = value_of(alloc, true, raw_attribute.body)?;
     Ok(Attribute { name, value })
 }

@@ -3,7 +3,7 @@ ghost use Rattle.pnml_grammar.specs.Characters.{is_space};
 ghost use Rattle.pnml_grammar.specs.Names.{is_name_start};
 ghost use Rattle.pnml_token.specs.Classes.{in_class};
 
-/// The classes of bytes that stand in runs.
+/// The classes of bytes that are in runs.
 #[derive(Clone, Copy)]
 pub(crate) enum Class {
     /// White space (XML 1.0, production 3, S).
@@ -14,7 +14,7 @@ pub(crate) enum Class {
     Value(u8),
     /// Text up to the next markup (production 14, CharData).
     Text,
-    /// What stands between `&` and `;` (productions 66, CharRef, and 68, EntityRef).
+    /// What is between `&` and `;` (productions 66, CharRef, and 68, EntityRef).
     Reference,
     /// A line up to a carriage return.
     Line,

@@ -16,7 +16,7 @@ pub(crate) fn is_spelling(bytes: &[u8]) -> bool
     bytes.len() <= SPELLING_LIMIT && is_legal(bytes)
 }
 
-/// Most spellings are legal characters of ASCII alone, and those need no decoding.
+/// Most spellings are legal characters of ASCII only, and those need no decoding.
 #[tactic(auto, using(crate::proofs::LegalTexts::plain_text))]
 fn is_legal(bytes: &[u8]) -> bool
     ensures { result ≡ is_legal bytes.now }

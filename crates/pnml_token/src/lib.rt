@@ -1,4 +1,4 @@
-//! What stands at an offset: the one token that the definition of pnml_grammar puts there, with its end, or
+//! What occurs at an offset: the one token that the definition of pnml_grammar puts there, with its end, or
 //! the answer that none does.
 #![tactic(auto)]
 
@@ -12,9 +12,9 @@ mod miss;
 mod name;
 mod part;
 mod piece;
+mod raw_attribute;
 mod reference;
 mod run;
-mod setting;
 mod shape;
 mod step;
 mod tag;

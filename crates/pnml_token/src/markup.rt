@@ -8,8 +8,8 @@ use crate::class::is_space;
 use crate::miss::Miss;
 use crate::name::name_of;
 use crate::part::until;
+use crate::raw_attribute::{RawAttribute, raw_attributes_of};
 use crate::run::{past, past_space, past_text};
-use crate::setting::{Setting, settings_of};
 use crate::text::text_in;
 use crate::value::end_lines;
 use pnml_grammar::Token;
@@ -51,7 +51,7 @@ pub(crate) fn instruction_of(alloc: Global, bytes: &[u8]) -> Result<(Token, &[u8
     }
 }
 
-/// What stands behind an instruction's name (XML 1.0, production 16, PI).
+/// What follows an instruction's name (XML 1.0, production 16, PI).
 #[tactic(auto, unfolding(pnml_grammar::specs::Reading::instruction_closed))]
 fn close_instruction(bytes: &[u8]) -> Result<(Token, &[u8]), Miss>
     ensures { Gives (λ x. (x.0, x.1.now)) result (instruction_closed bytes.now) }
@@ -73,25 +73,25 @@ fn is_apart(body: &[u8]) -> bool
     }
 }
 
-/// What stands behind `<?xml` (XML 1.0, production 23, XMLDecl).
+/// What follows `<?xml` (XML 1.0, production 23, XMLDecl).
 #[tactic(auto, unfolding(pnml_grammar::specs::Reading::declaration_at))]
 fn declaration_of(alloc: Global, bytes: &[u8]) -> Result<(Token, &[u8]), Miss>
     ensures { Gives (λ x. (x.0, x.1.now)) result (declaration_at bytes.now) }
 {
-    let (settings, rest) = settings_of(alloc, bytes)?;
+    let (raw_attributes, rest) = raw_attributes_of(alloc, bytes)?;
     let rest = past_text(b"?>", past_space(rest)).ok_or(Miss::NoToken)?;
-    if declare(settings.as_slice()) {
+    if declare(raw_attributes.as_slice()) {
         Ok((Token::Declaration, rest))
     } else {
         Err(Miss::NoToken)
     }
 }
 
-/// The version, and behind it the encoding, or standalone, or both in this order.
-fn declare(settings: &[Setting<'_>]) -> bool
-    ensures { result ≡ declare (views settings.now) }
+/// The version, and after it the encoding, or standalone, or both in this order.
+fn declare(raw_attributes: &[RawAttribute<'_>]) -> bool
+    ensures { result ≡ declare (views raw_attributes.now) }
 {
-    match settings {
+    match raw_attributes {
         [version] => is_version(version),
         [version, other] => is_version(version) && (is_encoding(other) || is_standalone(other)),
         [version, encoding, standalone] => {
@@ -102,23 +102,24 @@ fn declare(settings: &[Setting<'_>]) -> bool
 }
 
 /// `version` = `1.0` (XML 1.0, production 24, VersionInfo).
-fn is_version(setting: &Setting<'_>) -> bool
-    ensures { result ≡ is_version (view setting.now) }
+fn is_version(raw_attribute: &RawAttribute<'_>) -> bool
+    ensures { result ≡ is_version (view raw_attribute.now) }
 {
-    setting.name == b"version".as_slice() && setting.body == b"1.0".as_slice()
+    raw_attribute.name == b"version".as_slice() && raw_attribute.body == b"1.0".as_slice()
 }
 
 /// `encoding` = `UTF-8` in any letter case (XML 1.0, production 80, EncodingDecl).
-fn is_encoding(setting: &Setting<'_>) -> bool
-    ensures { result ≡ is_encoding (view setting.now) }
+fn is_encoding(raw_attribute: &RawAttribute<'_>) -> bool
+    ensures { result ≡ is_encoding (view raw_attribute.now) }
 {
-    setting.name == b"encoding".as_slice() && setting.body.eq_ignore_ascii_case(b"utf-8")
+    raw_attribute.name == b"encoding".as_slice()
+        && raw_attribute.body.eq_ignore_ascii_case(b"utf-8")
 }
 
 /// `standalone` = `yes` or `no` (XML 1.0, production 32, SDDecl).
-fn is_standalone(setting: &Setting<'_>) -> bool
-    ensures { result ≡ is_standalone (view setting.now) }
+fn is_standalone(raw_attribute: &RawAttribute<'_>) -> bool
+    ensures { result ≡ is_standalone (view raw_attribute.now) }
 {
-    setting.name == b"standalone".as_slice()
-        && (setting.body == b"yes".as_slice() || setting.body == b"no".as_slice())
+    raw_attribute.name == b"standalone".as_slice()
+        && (raw_attribute.body == b"yes".as_slice() || raw_attribute.body == b"no".as_slice())
 }

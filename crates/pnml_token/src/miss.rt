@@ -3,7 +3,7 @@ ghost use Rattle.pnml_token.specs.declared.miss.Miss.TheVariants.{NoMemory};
 
 use std::alloc::{AllocError, AllocFailed};
 
-/// Why a reader gives nothing: nothing of its kind stands there, or the system refused memory.
+/// Why a reader gives nothing: nothing of its kind is there, or the system refused memory.
 #[derive(Clone, Copy, Debug)]
 pub(crate) enum Miss {
     NoToken,

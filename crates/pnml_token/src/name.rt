@@ -1,5 +1,5 @@
 ghost use Rattle.std.specs.Prelude.{◌≡◌, option_map};
-ghost use Rattle.pnml_grammar.specs.Reading.{name_at, name_behind_space, quote_at};
+ghost use Rattle.pnml_grammar.specs.Reading.{name_at, name_after_space, quote_at};
 
 use crate::class::{Class, is_name_start, is_space};
 use crate::run::{past_space, split_run};
@@ -14,9 +14,9 @@ pub(crate) fn name_of(bytes: &[u8]) -> Option<(&[u8], &[u8])>
     }
 }
 
-/// The name behind white space, of which there is some.
-pub(crate) fn name_behind_space(bytes: &[u8]) -> Option<(&[u8], &[u8])>
-    ensures { option_map (λ x. (x.0.now, x.1.now)) result ≡ name_behind_space bytes.now }
+/// The name after white space, of which there is some.
+pub(crate) fn name_after_space(bytes: &[u8]) -> Option<(&[u8], &[u8])>
+    ensures { option_map (λ x. (x.0.now, x.1.now)) result ≡ name_after_space bytes.now }
 {
     match bytes {
         [first, ..] if is_space(*first) => name_of(past_space(bytes)),

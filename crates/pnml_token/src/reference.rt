@@ -1,26 +1,26 @@
 ghost use Rattle.std.specs.Prelude.{◌≡◌, ◌⊎◌, []};
 ghost use Rattle.std.specs.Char.{digit_value};
-ghost use Rattle.pnml_grammar.specs.Resolving.{character_numbered, number_behind, character_named, character_behind_number_sign, referenced};
+ghost use Rattle.pnml_grammar.specs.Resolving.{character_numbered, number_after, character_named, character_after_number_sign, referenced};
 
 use pnml_grammar::is_legal_character;
 
 const GREATEST_CHARACTER: u32 = 0x10_FFFF;
 
-/// The character by what stands between `&` and `;` (XML 1.0, productions 66, CharRef, and 68, EntityRef).
+/// The character by what is between `&` and `;` (XML 1.0, productions 66, CharRef, and 68, EntityRef).
 #[tactic(auto, unfolding(pnml_grammar::specs::Resolving::referenced))]
 pub(crate) fn referenced(body: &[u8]) -> Option<char>
     ensures { result ≡ referenced body.now }
 {
     match body {
-        [b'#', number @ ..] => behind_number_sign(number),
+        [b'#', number @ ..] => after_number_sign(number),
         [_, ..] => named(body),
         [] => None,
     }
 }
 
-#[tactic(auto, unfolding(pnml_grammar::specs::Resolving::character_behind_number_sign))]
-fn behind_number_sign(number: &[u8]) -> Option<char>
-    ensures { result ≡ character_behind_number_sign number.now }
+#[tactic(auto, unfolding(pnml_grammar::specs::Resolving::character_after_number_sign))]
+fn after_number_sign(number: &[u8]) -> Option<char>
+    ensures { result ≡ character_after_number_sign number.now }
 {
     match number {
         [b'x', digits @ ..] => numbered(16, digits),
@@ -58,12 +58,12 @@ fn numbered(base: u32, digits: &[u8]) -> Option<char>
     if digits.is_empty() {
         return None;
     }
-    number_behind(base, digits)
+    number_after(base, digits)
 }
 
-fn number_behind(base: u32, digits: &[u8]) -> Option<char>
+fn number_after(base: u32, digits: &[u8]) -> Option<char>
     requires { (base ≡ 10) ⊎ (base ≡ 16) }
-    ensures { result ≡ number_behind base 0 digits.now }
+    ensures { result ≡ number_after base 0 digits.now }
 {
     let mut number = 0;
     for digit in digits {
@@ -77,7 +77,7 @@ fn number_behind(base: u32, digits: &[u8]) -> Option<char>
 }
 
 fn character(number: u32) -> Option<char>
-    ensures { result ≡ number_behind 10 number [] }
+    ensures { result ≡ number_after 10 number [] }
 {
     match char::from_u32(number) {
         Some(character) if is_legal_character(character) => Some(character),

@@ -1,16 +1,16 @@
 ghost use Rattle.std.specs.Prelude.{◌≡◌, ◌<◌, ℕ, false, length, drop, slice_index, option_copied, IsUtf8};
 ghost use Rattle.std.specs.List.{prefix_len};
-ghost use Rattle.pnml_grammar.specs.Runs.{passed, behind, past, past_text};
+ghost use Rattle.pnml_grammar.specs.Runs.{passed, beyond, past, past_text};
 ghost use Rattle.pnml_token.specs.Classes.{in_class};
 ghost use Rattle.pnml_token.specs.Pieces.{past_feed};
 
 use crate::class::{Class, has};
 use memchr::memchr;
 
-/// The first bytes of the class, and the bytes behind them.
+/// The first bytes of the class, and the bytes after them.
 pub(crate) fn split_run(class: Class, bytes: &[u8]) -> (&[u8], &[u8])
     ensures run { result.0.now ≡ passed (in_class class) bytes.now }
-    ensures rest { result.1.now ≡ behind (in_class class) bytes.now }
+    ensures rest { result.1.now ≡ beyond (in_class class) bytes.now }
 {
     bytes.split_at(run_length(class, bytes))
 }
@@ -25,7 +25,7 @@ pub(crate) fn run_length(class: Class, bytes: &[u8]) -> usize
 /// Text up to the next markup, and the bytes from there on.
 pub(crate) fn split_markup(bytes: &[u8]) -> (&[u8], &[u8])
     ensures run { result.0.now ≡ passed (in_class Class.Text) bytes.now }
-    ensures rest { result.1.now ≡ behind (in_class Class.Text) bytes.now }
+    ensures rest { result.1.now ≡ beyond (in_class Class.Text) bytes.now }
 {
     bytes.split_at(text_length(bytes))
 }
@@ -37,14 +37,14 @@ fn text_length(bytes: &[u8]) -> usize
     memchr(b'<', bytes).unwrap_or(bytes.len())
 }
 
-/// What stands behind white space.
+/// What follows white space.
 pub(crate) fn past_space(bytes: &[u8]) -> &[u8]
-    ensures { result.now ≡ behind (in_class Class.Space) bytes.now }
+    ensures { result.now ≡ beyond (in_class Class.Space) bytes.now }
 {
     split_run(Class::Space, bytes).1
 }
 
-/// What stands behind this byte, if it comes first.
+/// What follows this byte, if it comes first.
 pub(crate) fn past(wanted: u8, bytes: &[u8]) -> Option<&[u8]>
     ensures { option_copied result ≡ past wanted bytes.now }
 {
@@ -54,7 +54,7 @@ pub(crate) fn past(wanted: u8, bytes: &[u8]) -> Option<&[u8]>
     }
 }
 
-/// What stands behind this text, if it comes first.
+/// What follows this text, if it comes first.
 pub(crate) fn past_text<'a>(text: &[u8], bytes: &'a [u8]) -> Option<&'a [u8]>
     ensures { option_copied result ≡ past_text text.now bytes.now }
 {
@@ -65,17 +65,17 @@ pub(crate) fn past_text<'a>(text: &[u8], bytes: &'a [u8]) -> Option<&'a [u8]>
     }
 }
 
-/// The first bytes of the class, and the text behind them. The class has all bytes that aren't ASCII.
+/// The first bytes of the class, and the text after them. The class has all bytes that aren't ASCII.
 pub(crate) fn split_text(class: Class, text: &str) -> (&str, &str)
     requires { (byte : ℕ) → in_class class byte ≡ false → byte < 128 }
     ensures run { result.0.now ≡ passed (in_class class) text.now }
-    ensures rest { result.1.now ≡ behind (in_class class) text.now }
+    ensures rest { result.1.now ≡ beyond (in_class class) text.now }
     ensures utf8 { IsUtf8 result.0.now × IsUtf8 result.1.now }
 {
     text.split_at(run_length(class, text.as_bytes()))
 }
 
-/// What stands behind the first character, which is ASCII.
+/// What follows the first character, which is ASCII.
 pub(crate) fn past_first(text: &str) -> &str
     requires some { 0 < length text.now }
     requires ascii { slice_index text.now 0 < 128 }
@@ -84,7 +84,7 @@ pub(crate) fn past_first(text: &str) -> &str
     &text[1..]
 }
 
-/// What stands behind a line feed, if one comes first.
+/// What follows a line feed, if one comes first.
 pub(crate) fn past_line_feed(text: &str) -> &str
     ensures { result.now ≡ past_feed text.now }
 {

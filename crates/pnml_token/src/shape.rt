@@ -10,7 +10,7 @@ use crate::tag::{end_tag_of, tag_of};
 use pnml_grammar::Token;
 use std::alloc::Global;
 
-/// The token at the front, and the bytes behind it.
+/// The token at the front, and the bytes after it.
 #[tactic(auto, unfolding(pnml_grammar::specs::Reading::token_from))]
 pub(crate) fn token_of(alloc: Global, bytes: &[u8]) -> Result<(Token, &[u8]), Miss>
     ensures { Gives (λ x. (x.0, x.1.now)) result (token_from bytes.now) }

@@ -9,7 +9,7 @@ use crate::shape::token_of;
 use pnml_grammar::Token;
 use std::alloc::Global;
 
-/// What stands at an offset.
+/// What occurs at an offset.
 #[derive(Drop)]
 pub enum Step {
     /// A token, and the offset of its end.
@@ -21,38 +21,38 @@ pub enum Step {
 /// Why no step is answered.
 #[derive(Clone, Copy, Debug)]
 pub enum TokenFault {
-    /// Bytes stand at this offset, and no token does.
+    /// Bytes occur at this offset, and no token does.
     BadToken(usize),
     /// The system refused memory.
     NoMemory,
 }
 
-/// The token that stands at the offset `place` of the bytes, with the offset of its end; `Step::End` at
+/// The token that occurs at the offset `offset` of the bytes, with the offset of its end; `Step::End` at
 /// their end.
 ///
-/// `TokenFault::BadToken(place)` comes where bytes stand there and none of the spellings of at most 1,048,576
+/// `TokenFault::BadToken(offset)` comes where bytes are there and none of the spellings of at most 1,048,576
 /// bytes does. Tokens are those of XML 1.0 in a narrow profile: no document type, no entities but the five
-/// of its section 4.6, version 1.0 in UTF-8 alone.
-pub fn token_at(alloc: Global, bytes: &[u8], place: usize) -> Result<Step, TokenFault>
-    requires { place ≤ length bytes.now }
-    // A token that is answered stands there, and ends there; no other does, by pnml_grammar's one_token.
-    ensures token { IfOk result (λ step. IfToken step (λ token e. TokenAt bytes.now place token e)) }
+/// of its section 4.6, version 1.0 in UTF-8 only.
+pub fn token_at(alloc: Global, bytes: &[u8], offset: usize) -> Result<Step, TokenFault>
+    requires { offset ≤ length bytes.now }
+    // A token that is answered is there, and ends there; no other does, by pnml_grammar's one_token.
+    ensures token { IfOk result (λ step. IfToken step (λ token e. TokenAt bytes.now offset token e)) }
     // The end is answered just where it is.
-    ensures end { IfOk result (λ step. IfEnd step (place ≡ length bytes.now)) }
-    ensures at_end { place ≡ length bytes.now → IsEndIfAny result }
-    // Where a bad token is answered bytes stand, no token does, and the offset is the one asked for.
-    ensures bad { IfErr result (λ fault. IfBadToken fault (λ at. at ≡ place)) }
-    ensures bytes { IfErr result (λ fault. IfBadToken fault (λ at. place < length bytes.now)) }
+    ensures end { IfOk result (λ step. IfEnd step (offset ≡ length bytes.now)) }
+    ensures at_end { offset ≡ length bytes.now → IsEndIfAny result }
+    // Where a bad token is answered bytes occur, no token does, and the offset is the one asked for.
+    ensures bad { IfErr result (λ fault. IfBadToken fault (λ at. at ≡ offset)) }
+    ensures bytes { IfErr result (λ fault. IfBadToken fault (λ at. offset < length bytes.now)) }
     ensures none { IfErr result (λ fault. IfBadToken fault (λ at.
-        (token : TheToken) (e : ℕ) → TokenAt bytes.now place token e → ⊥)) }
+        (token : TheToken) (e : ℕ) → TokenAt bytes.now offset token e → ⊥)) }
 {
-    let rest = &bytes[place..];
+    let rest = &bytes[offset..];
     if rest.is_empty() {
         return Ok(Step::End);
     }
     match token_within(alloc, rest) {
-        Ok((token, length)) => Ok(Step::Token(token, place + length)),
-        Err(Miss::NoToken) => Err(TokenFault::BadToken(place)),
+        Ok((token, length)) => Ok(Step::Token(token, offset + length)),
+        Err(Miss::NoToken) => Err(TokenFault::BadToken(offset)),
         Err(Miss::NoMemory) => Err(TokenFault::NoMemory),
     }
 }

@@ -4,8 +4,8 @@ ghost use Rattle.pnml_token.specs.Gives.{Gives};
 use crate::attribute::distinct_attributes_of;
 use crate::miss::Miss;
 use crate::name::name_of;
+use crate::raw_attribute::raw_attributes_of;
 use crate::run::{past, past_space};
-use crate::setting::settings_of;
 use crate::text::text_of;
 use net_values::Text;
 use pnml_grammar::{Attributes, Token};
@@ -18,8 +18,8 @@ pub(crate) fn tag_of(alloc: Global, bytes: &[u8]) -> Result<(Token, &[u8]), Miss
 {
     let (name, rest) = name_of(bytes).ok_or(Miss::NoToken)?;
     let name = text_of(alloc, name)?;
-    let (settings, rest) = settings_of(alloc, rest)?;
-    let attributes = distinct_attributes_of(alloc, settings.as_slice())?;
+    let (raw_attributes, rest) = raw_attributes_of(alloc, rest)?;
+    let attributes = distinct_attributes_of(alloc, raw_attributes.as_slice())?;
     close_tag(name, attributes, past_space(rest))
 }
 

@@ -3,7 +3,7 @@ use pnml_grammar::{Attributes, Token};
 use std::alloc::{AllocError, Global};
 use std::test::Fail;
 
-/// Bytes, and the answer at their front: its kind, its texts and its end, each behind a `|`.
+/// Bytes, and the answer at their front: its kind, its texts and its end, each after a `|`.
 #[derive(Clone, Copy)]
 struct Row {
     text: &'static [u8],

@@ -29,14 +29,14 @@ fn resolve(alloc: Global, spaces: bool, text: &str) -> Result<Text, Miss>
     let mut value = Text::new(alloc);
     let mut rest = text;
     'more: while !rest.is_empty() {
-        let (piece, behind) = next_piece(spaces, rest)?;
+        let (piece, beyond) = next_piece(spaces, rest)?;
         push_piece(&mut value, &piece)?;
-        rest = behind;
+        rest = beyond;
     }
     Ok(value)
 }
 
-/// The first part of a value, and the text behind what it was made of.
+/// The first part of a value, and the text after what it was made of.
 fn next_piece(spaces: bool, text: &str) -> Result<(Piece<'_>, &str), Miss>
     requires { 0 < length text.now }
     ensures found { IfOk result (λ x. IsPieceOf spaces text.now (meant x.0) x.1.now) }
@@ -115,9 +115,9 @@ pub(crate) fn end_lines(alloc: Global, text: &str) -> Result<Text, NoMemory>
     let mut value = Text::new(alloc);
     let mut rest = text;
     'more: while !rest.is_empty() {
-        let (piece, behind) = next_line(rest);
+        let (piece, beyond) = next_line(rest);
         push_piece(&mut value, &piece)?;
-        rest = behind;
+        rest = beyond;
     }
     Ok(value)
 }

@@ -6,8 +6,8 @@ use Rattle.std.proofs.lemmas.Fmt.{decimal_nonempty}
 use Rattle.std.proofs.lemmas.Bool.{ne_eqb, eq-eqb, both_ways, false≢true, eqb-true}
 use Rattle.std.proofs.lemmas.List.{nil_from_length}
 use Rattle.pnml_grammar.specs.Canon.{escaped, start_tag, end_tag, empty_tag, element, label, name_text, marking_text, weight_text}
-use Rattle.pnml_write.specs.Elements.{behind_attributes}
-use Rattle.pnml_write.proofs.Pieces.{around_value, two_and_three, some_behind}
+use Rattle.pnml_write.specs.Elements.{after_attributes}
+use Rattle.pnml_write.proofs.Pieces.{around_value, two_and_three, some_after}
 use Rattle.pnml_write.proofs.Runs.{escape_some}
 
 element_full : (name attributes children : List ℕ) → children ≢ [] → element name attributes children ≡ start_tag name attributes ++ children ++ end_tag name
@@ -62,7 +62,7 @@ unfolding weight_text start_tag end_tag
 weight_full n small other =
     rw (ne_eqb n 1 other) (sym (label_full (codes "inscription") (decimal n) (decimal_some n small)))
 
--- ---- behind the attributes
+-- ---- after the attributes
 
 label_some : (value : List ℕ) → label (codes "name") value ≢ []
 unfolding start_tag empty_tag
@@ -83,20 +83,20 @@ weight_some n small other e =
     let opened : codes "<inscription><text>" ++ decimal n ++ codes "</text></inscription>" ≡ [] = weight_full n small other ∙ e in
     cc
 
-pub behind_full : (children end : List ℕ) → children ≢ [] → codes ">" ++ children ++ end ≡ behind_attributes children end
-behind_full [] end some = absurd (some refl)
-behind_full (byte ∷ bytes) end some = refl
+pub after_full : (children end : List ℕ) → children ≢ [] → codes ">" ++ children ++ end ≡ after_attributes children end
+after_full [] end some = absurd (some refl)
+after_full (byte ∷ bytes) end some = refl
 
 -- an element is its name, its attributes and the rest
-pub element_parts : (name attributes children : List ℕ) → element name attributes children ≡ codes "<" ++ name ++ attributes ++ behind_attributes children (end_tag name)
+pub element_parts : (name attributes children : List ℕ) → element name attributes children ≡ codes "<" ++ name ++ attributes ++ after_attributes children (end_tag name)
 unfolding start_tag empty_tag
 element_parts name attributes [] = refl
 element_parts name attributes (byte ∷ bytes) =
     ap (λ (t : List ℕ). 60 ∷ t) (two_and_three name attributes (codes ">") (byte ∷ bytes) (end_tag name))
 
--- where no label stands behind the name, and where one does
-pub unlabelled : (name label end : List ℕ) → label ≡ [] → behind_attributes name end ≡ behind_attributes (name ++ label) end
+-- where no label follows the name, and where one does
+pub unlabelled : (name label end : List ℕ) → label ≡ [] → after_attributes name end ≡ after_attributes (name ++ label) end
 unlabelled name label end none = rw (none, append-nil) refl
 
-pub labelled : (name label end : List ℕ) → label ≢ [] → codes ">" ++ name ++ label ++ end ≡ behind_attributes (name ++ label) end
-labelled name label end some = behind_full (name ++ label) end (some_behind name label some)
+pub labelled : (name label end : List ℕ) → label ≢ [] → codes ">" ++ name ++ label ++ end ≡ after_attributes (name ++ label) end
+labelled name label end some = after_full (name ++ label) end (some_after name label some)

@@ -2,11 +2,11 @@
 use Rattle.std.proofs.Common.{◌≡◌, ◌≢◌, ℕ, List, [], ◌∷◌, ◌++◌, refl, ap, ◌∙◌, append_assoc, Result, Ok, Err}
 use Rattle.std.specs.Prelude.{OnOk}
 
--- a piece behind what was written before it
+-- a piece after what was written before it
 pub joined : (before between after written piece : List ℕ) → between ≡ before ++ written → after ≡ between ++ piece → after ≡ before ++ (written ++ piece)
 joined before between after written piece first second = rw (second, first) (append_assoc before written piece)
 
--- a last piece behind what was written before it
+-- a last piece after what was written before it
 pub finished : {T E : Type 0} (result : Result T E) (before between after written last whole : List ℕ) → between ≡ before ++ written → written ++ last ≡ whole → OnOk result (after ≡ between ++ last) → OnOk result (after ≡ before ++ whole)
 finished (Ok value) before between after written last whole first is e =
     rw (e, first) (append_assoc before written last ∙ ap (λ (t : List ℕ). before ++ t) is)
@@ -18,9 +18,9 @@ around_value s t v e f = simp append_assoc
 pub two_and_three : (a b c d e : List ℕ) → a ++ b ++ c ++ d ++ e ≡ a ++ b ++ (c ++ d ++ e)
 two_and_three a b c d e = simp append_assoc
 
-pub some_behind : (xs ys : List ℕ) → ys ≢ [] → xs ++ ys ≢ []
-some_behind [] ys some e = some e
-some_behind (x ∷ xs) ys some e = cc
+pub some_after : (xs ys : List ℕ) → ys ≢ [] → xs ++ ys ≢ []
+some_after [] ys some e = some e
+some_after (x ∷ xs) ys some e = cc
 
 pub some_front : (text rest : List ℕ) → text ≢ [] → text ++ rest ≢ []
 some_front [] rest some e = some refl

@@ -1,5 +1,5 @@
--- A value is written in runs: the bytes before the first that is written as a reference stand as they are,
--- and behind that byte the same holds again.
+-- A value is written in runs: the bytes before the first that is written as a reference occur as they are,
+-- and after that byte the same holds again.
 use Rattle.std.proofs.Common.{◌≡◌, ◌≢◌, ℕ, ◌<◌, ◌≤◌, Bool, true, false, cond, ◌||◌, not, zero, suc, List, [], ◌∷◌, ◌++◌, length, get_or, take, drop, Some, None, refl, ap, arith, append_assoc, ◌+◌, add-one}
 use Rattle.std.specs.Prelude.{nat_eq, slice_range}
 use Rattle.std.specs.List.{position, position_or_len}
@@ -45,9 +45,9 @@ escaped_split (byte ∷ bytes) (suc i) below verbatim =
     (ap (λ (t : List ℕ). byte ∷ t) (escaped_split bytes i (omega arith) (λ k before. verbatim (suc k) (omega arith))))
 
 -- the same, of the parts that a value is taken apart into
-pub escaped_parts : (value run text behind : List ℕ) (i : ℕ) → i < length value → ((k : ℕ) → k < i → is_escaped (get_or value k 0) ≡ false) → run ≡ slice_range value 0 i → text ≡ escape (get_or value i 0) → behind ≡ drop (i + 1) value → escaped value ≡ run ++ text ++ escaped behind
-escaped_parts value run text behind i below verbatim run_is text_is behind_is =
-    rw (run_is, text_is, behind_is, sub-zero, add-one, append_assoc) (escaped_split value i below verbatim)
+pub escaped_parts : (value run text beyond : List ℕ) (i : ℕ) → i < length value → ((k : ℕ) → k < i → is_escaped (get_or value k 0) ≡ false) → run ≡ slice_range value 0 i → text ≡ escape (get_or value i 0) → beyond ≡ drop (i + 1) value → escaped value ≡ run ++ text ++ escaped beyond
+escaped_parts value run text beyond i below verbatim run_is text_is after_is =
+    rw (run_is, text_is, after_is, sub-zero, add-one, append_assoc) (escaped_split value i below verbatim)
 
 -- what `position` says where it finds nothing
 none_below : (b : Bool) (n : ℕ) → cond b (Some n) None ≡ None → b ≡ false

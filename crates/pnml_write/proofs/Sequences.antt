@@ -12,7 +12,7 @@ unfolding start_tag empty_tag
 element_some name attributes [] e = cc
 element_some name attributes (byte ∷ bytes) e = cc
 
--- the text of an item, and whatever stands behind it
+-- the text of an item, and whatever follows it
 item_some : (item : Item) (rest : List ℕ) → item_text item ++ rest ≢ []
 unfolding item_text start_tag end_tag
 item_some (Page page) rest = λ e. cc

@@ -1,4 +1,4 @@
--- The bytes of a value that don't stand in the canonical spelling as they are.
+-- The bytes of a value that don't are in the canonical spelling as they are.
 use Rattle.std.specs.Prelude.{ℕ, ◌==◌, ◌||◌, Bool}
 
 -- `&`, `<`, `>`, `"`, tab, line feed and carriage return

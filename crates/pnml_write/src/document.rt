@@ -2,7 +2,7 @@ ghost use Rattle.std.specs.Prelude.{◌≡◌, ◌++◌, IfOk, OnOk, codes};
 ghost use Rattle.pnml_grammar.specs.Canon.{canon, name_text, items_text, net_text};
 ghost use Rattle.pnml_grammar.specs.Documents.{DocBytes};
 ghost use Rattle.pnml_grammar.specs.Valued.{Valued};
-ghost use Rattle.pnml_write.specs.Elements.{behind_attributes};
+ghost use Rattle.pnml_write.specs.Elements.{after_attributes};
 
 use crate::markup::Markup;
 use net_values::{Document, NetTree, NoMemory, Text};
@@ -39,10 +39,10 @@ impl Markup {
         self.push_net_rest(net)
     }
 
-    /// Appends what stands behind a net's attributes.
+    /// Appends what follows a net's attributes.
     fn push_net_rest(&mut self, net: &NetTree) -> Result<(), NoMemory>
         ensures { let children = name_text net.now.name ++ items_text net.now.items in
-            OnOk result (self.new ≡ self.old ++ behind_attributes children (codes "</net>")) }
+            OnOk result (self.new ≡ self.old ++ after_attributes children (codes "</net>")) }
     {
         if net.items.len() == 0 {
             return self.push_named_rest(&net.name, "</net>");

@@ -1,6 +1,6 @@
 ghost use Rattle.std.specs.Prelude.{◌≡◌, [], ◌∷◌, ◌++◌, OnOk, codes};
 ghost use Rattle.pnml_grammar.specs.Canon.{escaped, label, name_text, marking_text, weight_text};
-ghost use Rattle.pnml_write.specs.Elements.{behind_attributes};
+ghost use Rattle.pnml_write.specs.Elements.{after_attributes};
 
 use crate::markup::Markup;
 use net_values::{NoMemory, Text};
@@ -68,10 +68,10 @@ impl Markup {
         self.push("</text></inscription>")
     }
 
-    /// Appends what stands behind the attributes of an element whose only child may be a name.
+    /// Appends what follows the attributes of an element whose only child may be a name.
     pub(crate) fn push_named_rest(&mut self, name: &Option<Text>, end: &str) -> Result<(), NoMemory>
         ensures { OnOk result
-            (self.new ≡ self.old ++ behind_attributes (name_text name.now) end.now) }
+            (self.new ≡ self.old ++ after_attributes (name_text name.now) end.now) }
     {
         if name.is_none() {
             return self.push("/>");

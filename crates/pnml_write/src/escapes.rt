@@ -34,7 +34,7 @@ fn first_escaped(value: &str) -> Option<usize>
     value.as_bytes().iter().position(|byte| is_escaped(*byte))
 }
 
-/// A value up to its first byte that is written as a reference, that reference, and what stands behind
+/// A value up to its first byte that is written as a reference, that reference, and what follows
 /// the byte.
 pub(crate) fn split_at_escape(value: &str) -> Option<(&str, &'static str, &str)>
     ensures some { IfSome result (λ parts.

@@ -5,7 +5,7 @@ ghost use Rattle.pnml_write.specs.Pages.{BeginsWithoutEmptyPage};
 use crate::markup::Markup;
 use net_values::{Item, NoMemory, PageNode};
 
-/// A page without items at the front, and the items behind it.
+/// A page without items at the front, and the items after it.
 fn empty_page(items: &[Item]) -> Option<(&PageNode, &[Item])>
     ensures some { IfSome result (λ found.
         items.now ≡ Item.Page found.0.now ∷ Item.PageEnd ∷ found.1.now) }
@@ -34,7 +34,7 @@ impl Markup {
     }
 
     /// Appends the item at the front, a page without items together with its end, and gives what
-    /// stands behind.
+    /// follows.
     fn push_first<'a>(&mut self, items: &'a [Item]) -> Result<&'a [Item], NoMemory>
         requires { 0 < length items.now }
         ensures text { IfOk result (λ rest.

@@ -36,7 +36,7 @@ impl Markup {
         self.text
     }
 
-    /// Appends a piece as it stands.
+    /// Appends a piece as it occurs.
     pub(crate) fn push(&mut self, piece: &str) -> Result<(), NoMemory>
         ensures { OnOk result (self.new ≡ self.old ++ piece.now) }
     {
@@ -56,10 +56,10 @@ impl Markup {
         ensures { OnOk result (self.new ≡ self.old ++ escaped value.now) }
     {
         let mut rest = value;
-        while let Some((run, reference, behind)) = split_at_escape(rest) {
+        while let Some((run, reference, beyond)) = split_at_escape(rest) {
             self.push(run)?;
             self.push(reference)?;
-            rest = behind;
+            rest = beyond;
         }
         self.push(rest)
     }

@@ -1,7 +1,7 @@
 ghost use Rattle.std.specs.Prelude.{◌≡◌, [], ◌∷◌, ◌++◌, OnOk, codes};
 ghost use Rattle.net_values.specs.declared.document.Item.TheVariants.{Page, Place, Transition, RefPlace, RefTransition, Arc};
 ghost use Rattle.pnml_grammar.specs.Canon.{escaped, element, id_attribute, name_text, marking_text, weight_text, item_text};
-ghost use Rattle.pnml_write.specs.Elements.{behind_attributes};
+ghost use Rattle.pnml_write.specs.Elements.{after_attributes};
 
 use crate::elements::{USUAL_MARKING, USUAL_WEIGHT};
 use crate::markup::Markup;
@@ -16,10 +16,10 @@ impl Markup {
         self.push_place_rest(place)
     }
 
-    /// Appends what stands behind a place's id.
+    /// Appends what follows a place's id.
     fn push_place_rest(&mut self, place: &PlaceNode) -> Result<(), NoMemory>
         ensures { let labels = name_text place.now.name ++ marking_text place.now.initial in
-            OnOk result (self.new ≡ self.old ++ behind_attributes labels (codes "</place>")) }
+            OnOk result (self.new ≡ self.old ++ after_attributes labels (codes "</place>")) }
     {
         if place.initial == USUAL_MARKING {
             return self.push_named_rest(&place.name, "</place>");
@@ -66,10 +66,10 @@ impl Markup {
         self.push_arc_rest(arc)
     }
 
-    /// Appends what stands behind an arc's attributes.
+    /// Appends what follows an arc's attributes.
     fn push_arc_rest(&mut self, arc: &ArcNode) -> Result<(), NoMemory>
         ensures { let labels = name_text arc.now.name ++ weight_text arc.now.weight in
-            OnOk result (self.new ≡ self.old ++ behind_attributes labels (codes "</arc>")) }
+            OnOk result (self.new ≡ self.old ++ after_attributes labels (codes "</arc>")) }
     {
         if arc.weight == USUAL_WEIGHT {
             return self.push_named_rest(&arc.name, "</arc>");

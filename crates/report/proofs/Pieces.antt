@@ -11,12 +11,12 @@ abbrev is_none : List (List ℕ) → Bool
 is_none [] = true
 is_none (piece ∷ pieces) = false
 
--- the pieces so far are joined behind the old text, and the flag tells whether there are none
+-- the pieces so far are joined after the old text, and the flag tells whether there are none
 pub record IsJoined (old new : List ℕ) (pieces : List (List ℕ)) (is_first : Bool) : Type 0 where
   pub text : new ≡ old ++ join_with_byte 32 pieces
   pub first : is_first ≡ is_none pieces
 
--- what stands in front of a piece
+-- what is in front of a piece
 abbrev space : Bool → List ℕ
 space is_first = cond is_first [] (32 ∷ [])
 
@@ -74,7 +74,7 @@ kept piece test n old mid new is_first flag before fails same_text same_flag =
       first = same_flag ∙ before.first ∙ ap is_none (sym same);
     }
 
--- four pieces behind nothing
+-- four pieces after nothing
 pub four_pieces : (empty one two three four text a b c d : List ℕ) → empty ≡ [] → one ≡ empty ++ a → two ≡ one ++ b → three ≡ two ++ c → four ≡ three ++ d → text ≡ four → text ≡ a ++ b ++ c ++ d
 four_pieces empty one two three four text a b c d none first second third fourth same =
     rw (same, fourth, third, second, first, none) refl

@@ -35,7 +35,7 @@ impl Lines {
         self.text
     }
 
-    /// Appends a piece as it stands.
+    /// Appends a piece as it occurs.
     pub(crate) fn push(&mut self, piece: &str) -> Result<(), NoMemory>
         ensures { OnOk result (self.new ≡ self.old ++ piece.now) }
     {

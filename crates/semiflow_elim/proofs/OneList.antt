@@ -1,5 +1,5 @@
 -- Two strictly ascending lists with the same members are equal: the head of either is the least member, so the
--- heads are equal, and no member behind a head is equal to it, so the tails have the same members again.
+-- heads are equal, and no member after a head is equal to it, so the tails have the same members again.
 use Rattle.std.proofs.Common.{◌≡◌, ◌⊎◌, refl, sym, ap, ◌∙◌, subst, zero, suc, List, [], ◌∷◌, Contains, inl, inr, arith}
 use Rattle.std.specs.declared.cmp.Ordering.{Ordering}
 use Rattle.std.specs.declared.cmp.Ordering.TheVariants.{Less, Equal, Greater}
@@ -37,7 +37,7 @@ module _ {X : Type 0} (compare : X → X → Ordering) (order : IsTotalOrder com
   in_tail y ys z (zero, within, same) other = absurd (other (sym same))
   in_tail y ys z (suc k, within, same) other = (k, omega (arith, within), same)
 
-  -- what stands behind a head is in the other list's tail, where the heads are equal
+  -- what follows a head is in the other list's tail, where the heads are equal
   tail_in : (x y : X) (xs ys : List X) → x ≡ y → IsStrictlyAscending compare (x ∷ xs) → ((z : X) → Contains (x ∷ xs) z → Contains (y ∷ ys) z) → (z : X) → Contains xs z → Contains ys z
   tail_in x y xs ys same ascending forth z here =
       in_tail y ys z (forth z (suc here.0, omega (arith, here.1), here.2))

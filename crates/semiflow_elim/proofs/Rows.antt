@@ -45,7 +45,7 @@ flat_rows m K rows h p q p_row q_row within =
       | inl equal ↦ λ i under positive. subst (λ (f : ℕ → ℕ). 0 < f i) (q_row.same ∙ ap (λ (k : ℕ). slice_index (get_or rows k d)) (sym equal) ∙ sym p_is) positive
       | inr apart ↦ elim apart [
         | inl before ↦ absurd ((h.apart p_row.at q_row.at d before q_row.within).forth inside)
-        | inr behind ↦ absurd ((h.apart q_row.at p_row.at d behind p_row.within).back inside)
+        | inr beyond ↦ absurd ((h.apart q_row.at p_row.at d beyond p_row.within).back inside)
       ]
     ]
 

@@ -74,7 +74,7 @@ module _ (m : Matrix) (K : ℕ → Type 0) (Row : (ℕ → ℕ) → Type 0) (cov
             (deeper.0, deeper.1, λ i under positive. d.within i under (deeper.2 i under positive), deeper.3)
       ]
 
-  -- below a y of equal sums stands a row of equal sums, or rows of both signs
+  -- below a y of equal sums occurs a row of equal sums, or rows of both signs
   pub rows_below : (f g : ℕ → ℕ) (y : ℕ → ℕ) → IsSemiflow m K y → weighted m.rows f y ≡ weighted m.rows g y → ZeroBelow m Row f g y ⊎ (RowBelow m Row f g y × RowBelow m Row g f y)
   rows_below f g y whole same =
       let found = covers.below y whole in

@@ -29,11 +29,11 @@ BasesAreMinimal = (m : Matrix) (taken : ℕ → Bool) (rows : List (List ℕ)) �
 abbrev pub BasesGenerate : Type 0
 BasesGenerate = (m : Matrix) (taken : ℕ → Bool) (rows : List (List ℕ)) → IsBasis m (is_in taken) rows → (y : ℕ → ℕ) → IsSemiflow m (is_in taken) y → IsGenerated m rows y
 
--- each column of the first matrix stands in the second
+-- each column of the first matrix is in the second
 abbrev pub HasColumnsOf : Matrix → Matrix → Type 0
 HasColumnsOf m n = (j : ℕ) → j < m.columns → (k : ℕ) × (k < n.columns) × ((i : ℕ) → i < m.rows → (m.gain i j ≡ n.gain i k) × (m.loss i j ≡ n.loss i k))
 
--- two matrices with the same columns, which may stand in another order or more than once
+-- two matrices with the same columns, which may occur in another order or more than once
 pub record HaveSameColumns (m n : Matrix) : Type 0 where
   pub rows : m.rows ≡ n.rows
   pub forth : HasColumnsOf m n

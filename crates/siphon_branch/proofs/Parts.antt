@@ -280,7 +280,7 @@ same_bools true b to from = sym (to refl)
 same_bools false true to from = from refl
 same_bools false false to from = refl
 
--- where the contained set is a siphon it alone is grown in a live class
+-- where the contained set is a siphon it only is grown in a live class
 pub leaf_adds : (net : Net) (class : Branch) (met : List (List Bool)) → HasSize net.places class → IsLive net class → IsSiphon net (has class.contains) → Adds (IsGrownFrom net class.contains class.avoids) met (met ++ class.contains ∷ [])
 leaf_adds net class met size live siphon =
     adds_one (IsGrownFrom net class.contains class.avoids) met class.contains

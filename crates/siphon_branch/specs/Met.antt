@@ -16,11 +16,11 @@ pub record IsMinimalSet (net : Net) (set : List Bool) : Type 0 where
   pub size : length set ≡ net.places
   pub minimal : IsMinimalSiphon net (has set)
 
--- no member stands twice
+-- no member occurs twice
 abbrev pub AreDistinct : {X : Type 0} → List X → Type 0
 AreDistinct list = AllPairs (λ one later. one ≡ later → ⊥) list
 
--- the net has at most this many grown siphons: they all stand in a list of this length
+-- the net has at most this many grown siphons: they all are in a list of this length
 pub record HasAtMostGrown (net : Net) (sets : ℕ) : Type 0 where
   pub grown : List (List Bool)
   pub few : length grown ≤ sets

@@ -2,7 +2,7 @@ ghost use Rattle.std.specs.Prelude.{◌≡◌};
 
 use net_values::{NoMemory, Sets};
 
-/// Why a search gives no list: want of memory, or the net has more grown siphons than the limit, of which
+/// Why a search gives no list: out of memory, or the net has more grown siphons than the limit, of which
 /// one more than the limit are carried.
 #[derive(Drop)]
 pub enum SetFault {
@@ -20,7 +20,7 @@ impl From<NoMemory> for SetFault {
     }
 }
 
-/// Why a search stops before it has met all: want of memory, or one set more than the limit was met.
+/// Why a search stops before it has met all: out of memory, or one set more than the limit was met.
 #[derive(Clone, Copy)]
 pub(crate) enum Stop {
     NoMemory,

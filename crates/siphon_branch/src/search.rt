@@ -32,7 +32,7 @@ pub(crate) fn meet_all(
 }
 
 /// Meets each siphon once that is grown in the class, or so many that there is one more than the limit. A
-/// class whose contained set is a siphon has that one alone; another is parted by the input places of the
+/// class whose contained set is a siphon has that one only; another is parted by the input places of the
 /// lowest open transition: each part has one of them, and avoids those before it.
 fn meet(
     alloc: Global,

@@ -100,7 +100,7 @@ fn minimal_siphons_and_traps_of_small_nets(rt: HostRuntime) -> Result<(), Fail> 
     let mut line = net_of_size(&rt, alloc, 2, 1)?;
     join(&rt, &mut line, &[Arc::In(0, 0), Arc::Out(0, 1)])?;
     let isles = net_of_size(&rt, alloc, 2, 0)?;
-    let alone = net_of_size(&rt, alloc, 0, 1)?;
+    let only = net_of_size(&rt, alloc, 0, 1)?;
     let three = table_for(&rt, alloc, 3)?;
     let six: [&[usize]; 6] = [
         &[5, 7, 8],
@@ -116,7 +116,7 @@ fn minimal_siphons_and_traps_of_small_nets(rt: HostRuntime) -> Result<(), Fail> 
         (line.reverse(alloc)?, 2, &[&[1]]),
         (line, 1, &[&[0]]),
         (isles, 2, &[&[1], &[0]]),
-        (alone, 0, &[]),
+        (only, 0, &[]),
         (three, 6, &six),
     ];
     for (net, sets, expected) in &rows {

@@ -1,4 +1,4 @@
--- Pieces that are written one after the other are one line; where a write fails a prefix of the line stands.
+-- Pieces that are written one after the other are one line; where a write fails a prefix of the line occurs.
 use Rattle.std.proofs.Common.{◌≡◌, ℕ, zero, suc, ◌+◌, ◌≤◌, ◌<◌, min, List, [], ◌∷◌, ◌++◌, length, take, drop, Option, Some, refl, sym, ap, ◌∙◌, subst, arith, append_assoc, map, get_or, Bor}
 use Rattle.std.proofs.Math.Seq.{take-append-add}
 use Rattle.std.proofs.lemmas.List.{append-nil}
@@ -24,7 +24,7 @@ front_of xs ys zs n =
     let k = min n (length ys) in
     ap (λ (t : List ℕ). xs ++ t) (take_least n ys ∙ sym (take-append-le k ys zs (omega arith))) ∙ sym (take-append-add xs (ys ++ zs) k)
 
--- the pieces before one, that one, and those behind it
+-- the pieces before one, that one, and those after it
 pub joined_at : (i : ℕ) (pieces : List (List ℕ)) (piece : List ℕ) → slice_get pieces i ≡ Some piece
     → joined pieces ≡ joined (take i pieces) ++ (piece ++ joined (drop (suc i) pieces))
 joined_at i [] piece at = absurd cc
@@ -55,7 +55,7 @@ piece_fails a b c i pieces piece at first second =
           (Appends-trans a b c _ _ first second.1),
     )
 
--- what stands at an index of a list of references
+-- what occurs at an index of a list of references
 pub piece_at : (pieces : List (Bor (List ℕ))) (i : ℕ) (d : Bor (List ℕ)) → i < length pieces
     → slice_get (map (λ piece. piece.now) pieces) i ≡ Some (get_or pieces i d).now
 piece_at pieces i d h = slice_get-map (λ piece. piece.now) pieces i ∙ ap (option_map (λ piece. piece.now)) (slice_get-get_or pieces i d h)

@@ -1,10 +1,10 @@
--- Why there is no text: for want of memory, or by an outcome that the refusal tells.
+-- Why there is no text: out of memory, or by an outcome that the refusal tells.
 use Rattle.std.specs.Prelude.{◌≡◌, ◌⊎◌, ℕ, ◌≤◌, List}
 use Rattle.struct_core.specs.declared.refusal.Refusal.{Refusal}
 use Rattle.struct_core.specs.Lines.{memory_line}
 use Rattle.struct_core.specs.Refusals.{status_of, line_of}
 
--- want of memory
+-- out of memory
 pub record IsMemory (refusal : Refusal) : Type 0 where
   pub status : status_of refusal ≡ 10
   pub line : line_of refusal ≡ memory_line

@@ -9,7 +9,7 @@ use Rattle.pnml_grammar.specs.declared.reason.Counted.{Counted}
 use Rattle.pnml_grammar.specs.declared.reason.Counted.TheVariants as counted
 use Rattle.pnml_grammar.specs.FirstFault.{Fault, not_utf8, at, truncated}
 
--- pieces, one behind the other
+-- pieces, one after the other
 abbrev pub joined : List (List ℕ) → List ℕ
 joined pieces = flat_map (λ piece. piece) pieces
 
@@ -34,13 +34,13 @@ reason_words reasons.TooDeep = codes "too deep"
 reason_words (reasons.TooMany what) = counted_words what
 
 -- the input is no document; the number is an offset in it
-unfoldable pub place_line : ℕ → List ℕ → List ℕ
-place_line place words = joined (codes "document refused at " ∷ decimal place ∷ codes ": " ∷ words ∷ codes "\n" ∷ [])
+unfoldable pub offset_line : ℕ → List ℕ → List ℕ
+offset_line place words = joined (codes "document refused at " ∷ decimal place ∷ codes ": " ∷ words ∷ codes "\n" ∷ [])
 
 abbrev pub document_line : Fault → List ℕ
-document_line (not_utf8 place) = place_line place (codes "not UTF-8")
-document_line (at place reason) = place_line place (reason_words reason)
-document_line (truncated length) = place_line length (codes "truncated")
+document_line (not_utf8 place) = offset_line place (codes "not UTF-8")
+document_line (at place reason) = offset_line place (reason_words reason)
+document_line (truncated length) = offset_line length (codes "truncated")
 
 -- the document breaks a rule
 unfoldable pub id_line : List ℕ → List ℕ → List ℕ

@@ -26,7 +26,7 @@ abbrev pub Says : Device → Device → List ℕ → Type 0
 Says old new line =
     Appends old.bytes new.bytes line ⊎ (Rose old.faults new.faults × AppendsFront old.bytes new.bytes line)
 
--- the statuses of runs that have an outcome: all but usage, too long, read fault and want of memory
+-- the statuses of runs that have an outcome: all but usage, too long, read fault and out of memory
 abbrev pub IsAnswered : ℕ → Type 0
 IsAnswered status = (status ≢ 2) × (status ≢ 7) × (status ≢ 8) × (status ≢ 10)
 

@@ -20,7 +20,7 @@ task_word Traps = codes "traps"
 abbrev pub default_budgets : Budgets
 default_budgets = record { rows = 20000; sets = 100000 }
 
--- the words are one task's word alone
+-- the words are one task's word only
 abbrev pub Means : List (List ℕ) → Order → Type 0
 Means words order = (task : Task) × (words ≡ task_word task ∷ []) × (order ≡ Run task default_budgets)
 

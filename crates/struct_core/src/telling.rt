@@ -2,7 +2,7 @@ ghost use Rattle.std.specs.Prelude.{◌≡◌, map, OnOk, OnErr};
 ghost use Rattle.std.specs.Io.KnownBytes.{Appends};
 ghost use Rattle.pnml_source.specs.Causes.{HasCause};
 ghost use Rattle.pnml_source.specs.Streams.{AppendsFront};
-ghost use Rattle.struct_core.specs.Lines.{joined, counted_words, reason_words, place_line, id_line, unknown_line, rule_line, wide_line, budget_line, limit_line, usage_line, length_line, read_line, write_line, memory_line};
+ghost use Rattle.struct_core.specs.Lines.{joined, counted_words, reason_words, offset_line, id_line, unknown_line, rule_line, wide_line, budget_line, limit_line, usage_line, length_line, read_line, write_line, memory_line};
 ghost use Rattle.struct_core.specs.Refusals.{line_of, fault_line, excess_line};
 
 use crate::refusal::{Excess, Refusal};
@@ -73,9 +73,9 @@ fn tell_document<O: Sink>(sink: &mut O, fault: &DocFault) -> Result<(), WriteFau
 {
     match fault {
         DocFault::NoMemory => write_all(sink, memory_line()),
-        DocFault::NotUtf8(place) => tell_place(sink, *place, b"not UTF-8"),
-        DocFault::At(place, reason) => tell_place(sink, *place, words_of(*reason)),
-        DocFault::Truncated(length) => tell_place(sink, *length, b"truncated"),
+        DocFault::NotUtf8(place) => tell_offset(sink, *place, b"not UTF-8"),
+        DocFault::At(place, reason) => tell_offset(sink, *place, words_of(*reason)),
+        DocFault::Truncated(length) => tell_offset(sink, *length, b"truncated"),
     }
 }
 
@@ -154,10 +154,10 @@ fn tell_limit<O: Sink>(sink: &mut O, limit: u32) -> Result<(), WriteFault>
 }
 
 /// At a place in the input, by the words of the reason.
-#[tactic(auto, unfolding(crate::specs::Lines::place_line))]
-fn tell_place<O: Sink>(sink: &mut O, place: u64, words: &[u8]) -> Result<(), WriteFault>
-    ensures whole { OnOk result (Appends (O.held sink.old) (O.held sink.new) (place_line place words.now)) }
-    ensures cut { OnErr result (AppendsFront (O.held sink.old) (O.held sink.new) (place_line place words.now)) }
+#[tactic(auto, unfolding(crate::specs::Lines::offset_line))]
+fn tell_offset<O: Sink>(sink: &mut O, place: u64, words: &[u8]) -> Result<(), WriteFault>
+    ensures whole { OnOk result (Appends (O.held sink.old) (O.held sink.new) (offset_line place words.now)) }
+    ensures cut { OnErr result (AppendsFront (O.held sink.old) (O.held sink.new) (offset_line place words.now)) }
     ensures cause { HasCause (O.faults sink.old) (O.faults sink.new) result }
 {
     let mut buffer = Buffer::new();
@@ -200,7 +200,7 @@ fn tell_unknown<O: Sink>(sink: &mut O, id: &Text, by: &Text) -> Result<(), Write
     )
 }
 
-/// Writes the pieces, one behind the other.
+/// Writes the pieces, one after the other.
 fn write_pieces<O: Sink>(sink: &mut O, pieces: &[&[u8]]) -> Result<(), WriteFault>
     ensures whole { OnOk result (Appends (O.held sink.old) (O.held sink.new) (joined (map (λ piece. piece.now) pieces.now))) }
     ensures cut { OnErr result (AppendsFront (O.held sink.old) (O.held sink.new) (joined (map (λ piece. piece.now) pieces.now))) }

@@ -28,7 +28,7 @@ const DEFAULT_BUDGETS: Budgets = Budgets {
     sets: 100_000,
 };
 
-/// The word, where there is one alone.
+/// The word, where there is one only.
 fn only_word(words: &Words) -> Option<&Text>
     ensures found { IfSome result (λ word. words.now ≡ word.now ∷ []) }
     ensures none { IfNone result ((word : Listed ℕ) → words.now ≡ word ∷ [] → ⊥) }

@@ -19,7 +19,7 @@ use Rattle.support_prune.proofs.SupportLemmas.{within_true}
 or_bits : (a b : ℕ) (i : ℕ) → bit_at (bit_or a b) i ≡ max (bit_at a i) (bit_at b i)
 or_bits a b i = bit_at_or a b i
 
--- one bit more in both masks, or in the second alone
+-- one bit more in both masks, or in the second only
 both_more : (m o x : ℕ) → bit_or m o ≡ o → bit_or (bit_or m x) (bit_or o x) ≡ bit_or o x
 both_more m o x h = same_from_bits _ _ (λ i.
     let below : bit_at (bit_or m o) i ≡ bit_at o i = ap (λ (z : ℕ). bit_at z i) h in

@@ -94,7 +94,7 @@ offered_new old new row pool alike none is =
       offer_below = any_of (λ other. IsWithin other row) (kept ++ row ∷ []) row (Contains-push kept row) (λ i some. some);
     }
 
--- the list that was sieved is the old one with the row behind it
+-- the list that was sieved is the old one with the row after it
 pub sieve_of_push : (old : List (List ℕ)) (row : List ℕ) (pushed new : List (List ℕ)) (before : ℕ) → pushed ≡ old ++ row ∷ [] → before ≡ length old → new ≡ filter (λ other. not (is_within (row_at pushed before) other)) (take before pushed) ++ row_at pushed before ∷ [] → new ≡ filter (λ other. not (is_within row other)) old ++ row ∷ []
 sieve_of_push old row pushed new before pushed_is before_is new_is =
     let last : row_at pushed before ≡ row = ap (λ (rows : List (List ℕ)). row_at rows before) pushed_is ∙ ap (row_at (old ++ row ∷ [])) before_is ∙ get_or-append_seam old row [] [] in

@@ -1,5 +1,5 @@
--- A list is sieved in place: each member is tested in turn, and taken out or passed. What was passed stands
--- in front, what wasn't tested yet behind it, and the last member, which isn't tested, at the end.
+-- A list is sieved in place: each member is tested in turn, and taken out or passed. What was passed occurs
+-- in front, what wasn't tested yet after it, and the last member, which isn't tested, at the end.
 use Rattle.std.proofs.Common.{◌≡◌, refl, sym, ap, ◌∙◌, ℕ, ◌+◌, ◌-◌, ◌<◌, ◌≤◌, Bool, true, false, cond, List, [], ◌∷◌, ◌++◌, length, get_or, take, drop, remove, filter, append_assoc, length-append, length-drop, arith}
 use Rattle.std.proofs.Math.Seq.{get_or-append_seam}
 use Rattle.std.proofs.lemmas.List.{take_more, drop_more, take_all, drop_all, append-nil}
@@ -56,7 +56,7 @@ sieved_all passes xs last seen rows next h all =
     h.rows_are ∙ ap (λ l. (filter passes l ++ drop seen xs) ++ last ∷ []) (take_all seen xs all)
     ∙ ap (λ l. (filter passes xs ++ l) ++ last ∷ []) (drop_all seen xs all) ∙ ap (λ l. l ++ last ∷ []) (append-nil (filter passes xs))
 
--- how many rows there are, and where the next one stands
+-- how many rows there are, and where the next one occurs
 pub sieved_sizes : {X : Type 0} (passes : X → Bool) (xs : List X) (last : X) (seen : ℕ) (rows : List X) (next : ℕ) → Sieved passes xs last seen rows next → length rows ≡ next + (length xs - seen) + 1
 sieved_sizes passes xs last seen rows next h =
     let done = filter passes (take seen xs) in

@@ -1,7 +1,7 @@
 use pnml_token::{Step, TokenFault, token_at};
 use std::alloc::Global;
 
-/// The number of tokens that stand one after the other from the front of the bytes to their end.
+/// The number of tokens that occur one after the other from the front of the bytes to their end.
 pub(crate) fn count(alloc: Global, bytes: &[u8]) -> Result<usize, TokenFault> {
     let mut place = 0;
     let mut tokens = 0;

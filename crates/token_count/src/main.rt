@@ -1,4 +1,4 @@
-//! Counts the tokens of its input, and tells the offset where none stands.
+//! Counts the tokens of its input, and tells the offset where none occurs.
 #![tactic(auto)]
 
 mod counting;

@@ -126,7 +126,7 @@ fn documents_are_written_canonically(rt: HostRuntime) -> Result<(), Fail> {
             b"<page id=\"g\"><page id=\"h\"/><page id=\"i\"><place id=\"p\"/></page></page>",
         ),
         (
-            "a page with a name alone",
+            "a page with a name only",
             b"<page id=\"g\"><name><text>x</text></name></page>",
             b"<page id=\"g\"><name><text>x</text></name></page>",
         ),

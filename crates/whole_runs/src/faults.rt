@@ -11,7 +11,7 @@ const ROOT: &[u8] = b"<pnml xmlns=\"http://www.pnml.org/version-2009/grammar/pnm
 fn the_first_faulty_place_is_told(rt: HostRuntime) -> Result<(), Fail> {
     let rows: [(&'static str, &'static [&'static [u8]], &'static [u8]); 28] = [
         (
-            "a byte that is no UTF-8, behind a bad token",
+            "a byte that is no UTF-8, after a bad token",
             &[HEAD, b"<place id=p/>\xff"],
             b"document refused at 139: not UTF-8\n",
         ),
@@ -163,7 +163,7 @@ fn the_first_faulty_place_is_told(rt: HostRuntime) -> Result<(), Fail> {
         ),
         ("no byte", &[], b"document refused at 0: truncated\n"),
         (
-            "the front alone",
+            "the front only",
             &[HEAD],
             b"document refused at 126: truncated\n",
         ),
@@ -186,7 +186,7 @@ fn the_first_faulty_place_is_told(rt: HostRuntime) -> Result<(), Fail> {
     Ok(())
 }
 
-/// A piece that may stand so many times in a net.
+/// A piece that may occur so many times in a net.
 #[derive(Drop)]
 struct Limit {
     shows: &'static str,
@@ -197,7 +197,7 @@ struct Limit {
     err: &'static [u8],
 }
 
-/// The front of a net up to where one more piece than may stand begins, and the next piece.
+/// The front of a net up to where one more piece than may occur begins, and the next piece.
 fn crowded(alloc: Global, limit: &Limit) -> Result<Vec<u8>, NoMemory> {
     let mut bytes = Vec::from_slice(alloc, HEAD)?;
     bytes.extend_from_slice(limit.before)?;

@@ -12,7 +12,7 @@ pub const USAGE: &[u8] = b"usage: pnmlstruct TASK [--rows N] [--sets N], or pnml
 pub struct Row<'a> {
     pub shows: &'static str,
     pub words: &'static [&'static str],
-    /// The input, in parts that stand one behind the other.
+    /// The input, in parts that occur one after the other.
     pub input: &'a [&'a [u8]],
     /// How the source cuts the input, and which of its reads fail.
     pub pieces: &'static [usize],
@@ -52,7 +52,7 @@ fn words(alloc: Global, given: &[&str]) -> Result<Words, NoMemory> {
     Ok(words)
 }
 
-/// The parts of an input, one behind the other.
+/// The parts of an input, one after the other.
 pub fn joined(alloc: Global, parts: &[&[u8]]) -> Result<Vec<u8>, NoMemory> {
     let mut bytes = Vec::new(alloc);
     for part in parts {

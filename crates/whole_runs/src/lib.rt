@@ -1,5 +1,5 @@
 //! Whole runs over devices in memory: words, input and what the devices do on one side, the status and what
-//! the two sinks hold on the other. The crate has tests alone.
+//! the two sinks hold on the other. The crate has tests only.
 #![tactic(auto)]
 
 #[cfg(test)]

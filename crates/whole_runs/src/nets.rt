@@ -1,11 +1,11 @@
 use net_values::NoMemory;
 use std::alloc::Global;
 
-/// What stands in front of the items of a net, in 60 and 66 bytes.
+/// What is in front of the items of a net, in 60 and 66 bytes.
 pub const HEAD: &[u8] =
     b"<pnml xmlns=\"http://www.pnml.org/version-2009/grammar/pnml\"><net id=\"n\" type=\"http://www.pnml.org/version-2009/grammar/ptnet\">";
 
-/// What stands behind them.
+/// What follows them.
 pub const REAR: &[u8] = b"</net></pnml>";
 
 /// A net as a table: its places with their tokens, its transitions, and its arcs with their weights.
@@ -104,14 +104,14 @@ pub const LINE: Net = Net {
     arcs: &[("p", "t", 1), ("t", "q", 1)],
 };
 
-/// Places alone.
+/// Places only.
 pub const ISLES: Net = Net {
     places: &[("a", 1), ("b", 1)],
     transitions: &[],
     arcs: &[],
 };
 
-/// A transition alone.
+/// A transition only.
 pub const ALONE: Net = Net {
     places: &[],
     transitions: &["t"],

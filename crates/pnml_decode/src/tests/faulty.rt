@@ -4,7 +4,7 @@ use crate::Reason::{
     UnknownElement,
 };
 
-/// A document up to the offset of its fault, what stands from there on, and the reason.
+/// A document up to the offset of its fault, what occurs from there on, and the reason.
 type Faulty = (&'static [u8], &'static [u8], Reason);
 
 /// Faults of whole inputs, in the order of the reasons.
@@ -105,7 +105,7 @@ pub(super) const FROM_THE_FRONT: [Faulty; 30] = [
     ),
 ];
 
-/// Faults behind the tag of a net, in the order of the reasons.
+/// Faults after the tag of a net, in the order of the reasons.
 pub(super) const IN_A_NET: [Faulty; 87] = [
     (b"", b"<1>", BadToken),
     (b"", b"&x;", BadToken),

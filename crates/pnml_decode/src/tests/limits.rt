@@ -4,7 +4,7 @@ use std::alloc::{AllocError, Global};
 use std::process::Abort;
 use std::test::Fail;
 
-/// A value between two texts behind what stands in front of its token: it may have so many bytes, and with
+/// A value between two texts after what is in front of its token: it may have so many bytes, and with
 /// one more the token is refused.
 #[derive(Clone, Copy)]
 struct Value {
@@ -60,7 +60,7 @@ const VALUES: [Value; 6] = [
     },
 ];
 
-/// A piece that may stand so many times, and the tag that is refused behind the last one.
+/// A piece that may occur so many times, and the tag that is refused after the last one.
 #[derive(Clone, Copy)]
 struct Count {
     before: &'static [u8],
@@ -154,7 +154,7 @@ const COUNTS: [Count; 10] = [
     },
 ];
 
-/// The piece as many times as is said, one behind the other.
+/// The piece as many times as is said, one after the other.
 fn repeated(alloc: Global, piece: &[u8], count: usize) -> Result<Vec<u8>, AllocError> {
     let mut text = Vec::new(alloc);
     for _ in 0..count {
@@ -201,7 +201,7 @@ fn values_are_bounded(rt: HostRuntime) -> Result<(), Fail> {
     Ok(())
 }
 
-/// As many pieces as may stand are decoded, and the tag behind them is refused.
+/// As many pieces as may occur are decoded, and the tag after them is refused.
 fn check_count(rt: &impl Abort, alloc: Global, count: &Count) -> Result<(), AllocError> {
     let pieces = repeated(alloc, count.piece, count.limit)?;
     let ends = repeated(alloc, count.after, count.limit)?;

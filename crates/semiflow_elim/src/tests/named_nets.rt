@@ -175,7 +175,7 @@ pub(super) const OF_TRANSITIONS: [NamedNet; 3] = [
         answer: Ok((0, &[])),
     },
     NamedNet {
-        name: "alone",
+        name: "only",
         places: 0,
         transitions: 1,
         arcs: &[],

@@ -15,8 +15,8 @@ loop-next-preserved c =
     let leads : slice_get c.loop-next.links c.loop-next.at ≡ Some (Leads c.in-Leads.next) = read_or c.loop-next.links c.loop-next.at (Leads c.in-Leads.next) Apart c.in-Leads.ensures (λ e. cc) in
     let ends = c.loop-next.invariant.ends in
     let set = same_ends_set c.loop-next.links c.loop-next.at c.in-Leads.next c.args.end leads ends in
-    let behind = goes_on ends.steps c.loop-next.links c.loop-next.at c.in-Leads.next c.args.end leads ends.chain in
+    let beyond = goes_on ends.steps c.loop-next.links c.loop-next.at c.in-Leads.next c.args.end leads ends.chain in
     record {
       same = same_ends_then _ _ _ c.loop-next.invariant.same set;
-      ends = set.kept _ _ (record { steps = behind.0; chain = behind.2 });
+      ends = set.kept _ _ (record { steps = beyond.0; chain = beyond.2 });
     }

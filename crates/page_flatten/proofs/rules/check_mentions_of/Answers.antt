@@ -3,7 +3,7 @@ use Rattle.page_flatten.specs.Elements.{Mention}
 use Rattle.page_flatten.specs.Rules.{IsKnown}
 use Rattle.page_flatten.specs.Tables.{IsFirstUnknown}
 use Rattle.page_flatten.proofs.FaultLaws.{err_goes, err_then, unknown_moves}
-use Rattle.page_flatten.proofs.Passes.{first_before, first_behind}
+use Rattle.page_flatten.proofs.Passes.{first_before, first_after}
 use Rattle.page_flatten.proofs.rules.check_mentions_of.Goals as goal
 
 pub returns-in_err-check_mention-in-Arc-clause-fault : goal.returns-in_err-check_mention-in-Arc-clause-fault
@@ -24,5 +24,5 @@ returns-in_ok-check_mention-in-Arc-clause-fault c =
     let target : Mention = record { id = arc.target; by = arc.id } in
     rw (c.in-Arc.is)
     (err_then (IsFirstUnknown table (target ∷ [])) (IsFirstUnknown table (source ∷ target ∷ [])) c.check_mention-in-Arc-2.result
-    (unknown_moves table (target ∷ []) (source ∷ target ∷ []) (λ x. first_behind (IsKnown table) source (target ∷ []) x c.in_ok-check_mention-in-Arc.ensures.ok))
+    (unknown_moves table (target ∷ []) (source ∷ target ∷ []) (λ x. first_after (IsKnown table) source (target ∷ []) x c.in_ok-check_mention-in-Arc.ensures.ok))
     c.check_mention-in-Arc-2.ensures.fault)

@@ -1,4 +1,4 @@
--- No attribute before the place has the name.
+-- No attribute before the offset has the name.
 use Rattle.std.proofs.Common.{◌≡◌, drop}
 use Rattle.pnml_grammar.specs.Elements.{value_of}
 use Rattle.pnml_decode.proofs.attributes.value_of.Given as goal

@@ -1,7 +1,7 @@
 -- A token that is taken goes on with what was read; where none is the reading stops at the first fault.
 use Rattle.std.proofs.Common.{arith}
 use Rattle.std.proofs.lemmas.Result.{err_from_is_err_and}
-use Rattle.pnml_grammar.proofs.PlaceLaws.{token_goes_on, token_end_inside}
+use Rattle.pnml_grammar.proofs.OffsetLaws.{token_goes_on, token_end_inside}
 use Rattle.pnml_decode.specs.Views.{view}
 use Rattle.pnml_decode.proofs.LoopLaws.{missing_is_first, token_goes_on_read, stop_is_first, token_at_step}
 use Rattle.pnml_decode.proofs.document.read_tokens.Goals as goal
@@ -9,22 +9,22 @@ use Rattle.pnml_decode.proofs.document.read_tokens.Goals as goal
 pub returns-in_err-token-clause-fault : goal.returns-in_err-token-clause-fault
 returns-in_err-token-clause-fault c =
     let p = err_from_is_err_and c.from_residual-in_err-token.result c.from_residual-in_err-token.ensures.1 in
-    rw (p.1, p.2) (missing_is_first _ c.args.bytes.now c.tokens.place (view c.tokens.reader) c.requires c.tokens.invariant.0 c.in_err-token.ensures.fault)
+    rw (p.1, p.2) (missing_is_first _ c.args.bytes.now c.tokens.offset (view c.tokens.reader) c.requires c.tokens.invariant.0 c.in_err-token.ensures.fault)
 
 pub tokens-preserved : goal.tokens-preserved
 tokens-preserved c =
-    let at = token_at_step c.args.bytes.now c.tokens.place _ _ _ c.in-Token.is c.in_ok-token.ensures.token in
-    token_goes_on_read c.args.bytes.now c.tokens.place (view c.tokens.reader) (view c.take.new.self) c.in-Token.token c.in-Token.end c.tokens.invariant.0 at c.in-Ok.ensures.ok
+    let at = token_at_step c.args.bytes.now c.tokens.offset _ _ _ c.in-Token.is c.in_ok-token.ensures.token in
+    token_goes_on_read c.args.bytes.now c.tokens.offset (view c.tokens.reader) (view c.take.new.self) c.in-Token.token c.in-Token.end c.tokens.invariant.0 at c.in-Ok.ensures.ok
 
 pub tokens-smaller : goal.tokens-smaller
 tokens-smaller c =
-    let at = token_at_step c.args.bytes.now c.tokens.place _ _ _ c.in-Token.is c.in_ok-token.ensures.token in
-    let ahead = token_goes_on c.args.bytes.now c.tokens.place c.in-Token.token c.in-Token.end at in
-    let inside = token_end_inside c.args.bytes.now c.tokens.place c.in-Token.token c.in-Token.end at in
+    let at = token_at_step c.args.bytes.now c.tokens.offset _ _ _ c.in-Token.is c.in_ok-token.ensures.token in
+    let ahead = token_goes_on c.args.bytes.now c.tokens.offset c.in-Token.token c.in-Token.end at in
+    let inside = token_end_inside c.args.bytes.now c.tokens.offset c.in-Token.token c.in-Token.end at in
     omega (arith, ahead, inside)
 
 pub returns-in-Err-clause-fault : goal.returns-in-Err-clause-fault
 returns-in-Err-clause-fault c =
-    let at = token_at_step c.args.bytes.now c.tokens.place _ _ _ c.in-Token.is c.in_ok-token.ensures.token in
+    let at = token_at_step c.args.bytes.now c.tokens.offset _ _ _ c.in-Token.is c.in_ok-token.ensures.token in
     rw c.refusal_at.ensures
-    (stop_is_first c.in-Err.stop c.args.bytes.now c.tokens.place (view c.tokens.reader) c.in-Token.token c.in-Token.end c.requires c.tokens.invariant.0 at c.in-Err.ensures.because)
+    (stop_is_first c.in-Err.stop c.args.bytes.now c.tokens.offset (view c.tokens.reader) c.in-Token.token c.in-Token.end c.requires c.tokens.invariant.0 at c.in-Err.ensures.because)

@@ -111,7 +111,7 @@ module _ (n : ℕ) {M : Type 1} {𝓤 : Ura M} (𝓛 : Logic 𝓤) (𝓜 : Model
         sets ! (agg ! (and_then ! (get ! refl) (and_then ! (num_lit ! fits) (no_more !)))) refl (tt, (tt, (fits, tt))) $
         move ! (1 ∷ []) $ fsplit ! $ fsplit ! $ drop ! $ unhide ! $
         fsplit ! $ fsplit ! $ fsplit ! $ feq_l ! (λ many.
-        -- [what the array holds; nothing; the space behind it; the name; the tokens; the locals]
+        -- [what the array holds; nothing; the space after it; the name; the tokens; the locals]
         move ! (1 ∷ []) $ drop ! $ move ! (1 ∷ []) $ drop ! $ hide ! $
         flt_i ! (length x.now.names * 16) (2 ^ 63) (subst (λ (k : ℕ). k * 16 < 2 ^ 63) (sym many) room.1) $
         flt_i ! (length x.now.names) (2 ^ 64) (subst (λ (k : ℕ). k < 2 ^ 64) (sym many) room.0) $ fjoin ! $

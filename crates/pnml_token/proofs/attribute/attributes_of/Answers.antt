@@ -11,17 +11,17 @@ pub returns-in_err-attribute_of : goal.returns-in_err-attribute_of
 returns-in_err-attribute_of c =
     let p = err_from_is_err_and c.from_residual.result c.from_residual.ensures.1 in
     rw (p.1, p.2)
-    (step_none c.in_err-attribute_of.field-0.0 c.loop-setting.attributes c.args.settings.now c.loop-setting.setting-index _ (attributes_of (views c.args.settings.now))
-    c.loop-setting-test.true c.in_err-attribute_of.ensures c.loop-setting.invariant)
+    (step_none c.in_err-attribute_of.field-0.0 c.loop-raw_attribute.attributes c.args.raw_attributes.now c.loop-raw_attribute.raw_attribute-index _ (attributes_of (views c.args.raw_attributes.now))
+    c.loop-raw_attribute-test.true c.in_err-attribute_of.ensures c.loop-raw_attribute.invariant)
 
-pub loop-setting-preserved : goal.loop-setting-preserved
-loop-setting-preserved c =
-    subst (λ (front : List Attribute). with_attributes front (attributes_of (drop (c.loop-setting.setting-index + 1) (views c.args.settings.now))) ≡ attributes_of (views c.args.settings.now))
+pub loop-raw_attribute-preserved : goal.loop-raw_attribute-preserved
+loop-raw_attribute-preserved c =
+    subst (λ (front : List Attribute). with_attributes front (attributes_of (drop (c.loop-raw_attribute.raw_attribute-index + 1) (views c.args.raw_attributes.now))) ≡ attributes_of (views c.args.raw_attributes.now))
     (sym c.in_ok-push.ensures.ok)
-    (step_more c.loop-setting.attributes c.args.settings.now c.loop-setting.setting-index _ c.in_ok-attribute_of.field-0 (attributes_of (views c.args.settings.now))
-    c.loop-setting-test.true c.in_ok-attribute_of.ensures c.loop-setting.invariant)
+    (step_more c.loop-raw_attribute.attributes c.args.raw_attributes.now c.loop-raw_attribute.raw_attribute-index _ c.in_ok-attribute_of.field-0 (attributes_of (views c.args.raw_attributes.now))
+    c.loop-raw_attribute-test.true c.in_ok-attribute_of.ensures c.loop-raw_attribute.invariant)
 
 pub returns : goal.returns
 returns c =
-    step_all c.loop-setting.attributes c.args.settings.now c.loop-setting.setting-index (attributes_of (views c.args.settings.now))
-    c.loop-setting-test.false c.loop-setting.invariant
+    step_all c.loop-raw_attribute.attributes c.args.raw_attributes.now c.loop-raw_attribute.raw_attribute-index (attributes_of (views c.args.raw_attributes.now))
+    c.loop-raw_attribute-test.false c.loop-raw_attribute.invariant

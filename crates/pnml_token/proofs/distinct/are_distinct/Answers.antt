@@ -2,4 +2,4 @@ use Rattle.pnml_token.proofs.NamesSeen.{distinct_few}
 use Rattle.pnml_token.proofs.distinct.are_distinct.Goals as goal
 
 pub returns-in-empty : goal.returns-in-empty
-returns-in-empty c = distinct_few c.args.settings.now c.in-empty.len_below
+returns-in-empty c = distinct_few c.args.raw_attributes.now c.in-empty.len_below

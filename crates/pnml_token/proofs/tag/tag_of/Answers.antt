@@ -14,6 +14,6 @@ returns c =
     let named = sym c.name_of.ensures ∙ ap (option_map (λ x. (x.0.now, x.1.now))) found in
     let distinct = ap (λ items. distinct_attributes_of (views items)) (sym c.as_slice.ensures.value) ∙ c.in_ok-attributes.ensures in
     subst (Gives (λ x. (x.0, x.1.now)) c.close_tag.result)
-    (sym (tag_made c.args.bytes.now c.in_ok-name.name.now c.in_ok-name.rest.now (views c.in_ok-settings.settings.items) c.in_ok-settings.rest.now c.in_ok-name-2.name
-    c.in_ok-attributes.attributes c.past_space.result.now _ named c.in_ok-name-2.ensures (sym c.in_ok-settings.ensures) distinct (sym c.past_space.ensures) refl))
+    (sym (tag_made c.args.bytes.now c.in_ok-name.name.now c.in_ok-name.rest.now (views c.in_ok-raw_attributes.raw_attributes.items) c.in_ok-raw_attributes.rest.now c.in_ok-name-2.name
+    c.in_ok-attributes.attributes c.past_space.result.now _ named c.in_ok-name-2.ensures (sym c.in_ok-raw_attributes.ensures) distinct (sym c.past_space.ensures) refl))
     c.close_tag.ensures

@@ -1,5 +1,5 @@
 -- `position` gives the first byte that is written as a reference. Such bytes are ASCII, so a value may be
--- cut before and behind them.
+-- cut before and after them.
 use Rattle.std.proofs.Common.{◌≡◌, ℕ, get_or, sym, ap, List, ◌∙◌}
 use Rattle.std.proofs.lemmas.List.Quantifiers.{position-Some}
 use Rattle.std.proofs.lemmas.Str.{IsCharBoundary-before_ascii, IsCharBoundary-after_ascii}

@@ -6,7 +6,7 @@ use Rattle.pnml_token.specs.Steps.{IfToken}
 use Rattle.token_count.proofs.counting.count.Goals as goal
 
 end_inside : (bytes : List ℕ) (k : ℕ) (token : Token) (e : ℕ) → TokenAt bytes k token e → e ≤ length bytes
-end_inside bytes k token e h = omega (arith, h.end_is, h.inside, ap length h.stands.parts, length-append h.spelling h.rest, length-drop k bytes)
+end_inside bytes k token e h = omega (arith, h.end_is, h.inside, ap length h.occurs.parts, length-append h.spelling h.rest, length-drop k bytes)
 
 pub loop-preserved : goal.loop-preserved
 loop-preserved c =

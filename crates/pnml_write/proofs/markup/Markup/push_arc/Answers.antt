@@ -1,9 +1,9 @@
--- The three attributes and the rest behind them are the text of the arc.
+-- The three attributes and the rest after them are the text of the arc.
 use Rattle.std.proofs.Common.{◌++◌}
 use Rattle.std.specs.Prelude.{codes}
 use Rattle.net_values.specs.declared.document.Item.TheVariants.{Arc}
 use Rattle.pnml_grammar.specs.Canon.{name_text, weight_text, item_text}
-use Rattle.pnml_write.specs.Elements.{behind_attributes}
+use Rattle.pnml_write.specs.Elements.{after_attributes}
 use Rattle.pnml_write.proofs.Pieces.{joined, finished}
 use Rattle.pnml_write.proofs.Shapes.{quoted, arc_is}
 use Rattle.pnml_write.proofs.markup.Markup.push_arc.Goals as goal
@@ -14,7 +14,7 @@ returns c =
     let id = quoted (codes "<arc id=") arc.id in
     let source = quoted (codes " source=") arc.source in
     let target = quoted (codes " target=") arc.target in
-    finished c.push_arc_rest.result c.args.self.now c.push_attribute-3.new.self c.push_arc_rest.new.self (id ++ source ++ target) (behind_attributes (name_text arc.name ++ weight_text arc.weight) (codes "</arc>")) (item_text (Arc arc))
+    finished c.push_arc_rest.result c.args.self.now c.push_attribute-3.new.self c.push_arc_rest.new.self (id ++ source ++ target) (after_attributes (name_text arc.name ++ weight_text arc.weight) (codes "</arc>")) (item_text (Arc arc))
     (joined c.args.self.now c.push_attribute-2.new.self c.push_attribute-3.new.self (id ++ source) target
     (joined c.args.self.now c.push_attribute.new.self c.push_attribute-2.new.self id source c.in_ok-push_attribute.ensures c.in_ok-push_attribute-2.ensures)
     c.in_ok-push_attribute-3.ensures)

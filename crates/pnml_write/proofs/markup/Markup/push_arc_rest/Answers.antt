@@ -1,8 +1,8 @@
--- With the usual weight the name alone decides whether there are children; with another there are some.
+-- With the usual weight the name only decides whether there are children; with another there are some.
 use Rattle.std.proofs.Common.{◌++◌, [], sym, append-nil, arith}
 use Rattle.std.specs.Prelude.{codes}
 use Rattle.pnml_grammar.specs.Canon.{name_text, weight_text}
-use Rattle.pnml_write.specs.Elements.{behind_attributes}
+use Rattle.pnml_write.specs.Elements.{after_attributes}
 use Rattle.pnml_write.proofs.Pieces.{joined, finished}
 use Rattle.pnml_write.proofs.Labels.{unlabelled, labelled, weight_none, weight_some}
 use Rattle.pnml_write.proofs.markup.Markup.push_arc_rest.Goals as goal
@@ -11,14 +11,14 @@ pub returns-then-arc-eq-USUAL_WEIGHT : goal.returns-then-arc-eq-USUAL_WEIGHT
 returns-then-arc-eq-USUAL_WEIGHT c =
     let name = name_text c.args.arc.now.name in
     let label = weight_text c.args.arc.now.weight in
-    finished c.push_named_rest.result c.args.self.now c.args.self.now c.push_named_rest.new.self [] (behind_attributes name (codes "</arc>")) (behind_attributes (name ++ label) (codes "</arc>"))
+    finished c.push_named_rest.result c.args.self.now c.args.self.now c.push_named_rest.new.self [] (after_attributes name (codes "</arc>")) (after_attributes (name ++ label) (codes "</arc>"))
     (sym (append-nil c.args.self.now)) (unlabelled name label (codes "</arc>") (weight_none c.args.arc.now.weight c.if-arc-eq-USUAL_WEIGHT.true)) c.push_named_rest.ensures
 
 pub returns : goal.returns
 returns c =
     let name = name_text c.args.arc.now.name in
     let label = weight_text c.args.arc.now.weight in
-    finished c.push-2.result c.args.self.now c.push_weight.new.self c.push-2.new.self (codes ">" ++ name ++ label) (codes "</arc>") (behind_attributes (name ++ label) (codes "</arc>"))
+    finished c.push-2.result c.args.self.now c.push_weight.new.self c.push-2.new.self (codes ">" ++ name ++ label) (codes "</arc>") (after_attributes (name ++ label) (codes "</arc>"))
     (joined c.args.self.now c.push_name_if_any.new.self c.push_weight.new.self (codes ">" ++ name) label
     (joined c.args.self.now c.push.new.self c.push_name_if_any.new.self (codes ">") name c.in_ok-push.ensures c.in_ok-push_name_if_any.ensures)
     c.in_ok-push_weight.ensures)

@@ -1,9 +1,9 @@
--- The attributes and the rest behind them are the text of the net.
+-- The attributes and the rest after them are the text of the net.
 use Rattle.std.proofs.Common.{◌++◌}
 use Rattle.std.specs.Prelude.{codes}
 use Rattle.pnml_grammar.specs.Canon.{name_text, items_text, net_text}
 use Rattle.pnml_write.specs.declared.document.TheConstants.{NET_TYPE}
-use Rattle.pnml_write.specs.Elements.{behind_attributes}
+use Rattle.pnml_write.specs.Elements.{after_attributes}
 use Rattle.pnml_write.proofs.Pieces.{joined, finished}
 use Rattle.pnml_write.proofs.Shapes.{quoted}
 use Rattle.pnml_write.proofs.Frames.{net_is}
@@ -13,6 +13,6 @@ pub returns : goal.returns
 returns c =
     let net = c.args.net.now in
     let id = quoted (codes "<net id=") net.id in
-    finished c.push_net_rest.result c.args.self.now c.push.new.self c.push_net_rest.new.self (id ++ NET_TYPE.now) (behind_attributes (name_text net.name ++ items_text net.items) (codes "</net>")) (net_text net)
+    finished c.push_net_rest.result c.args.self.now c.push.new.self c.push_net_rest.new.self (id ++ NET_TYPE.now) (after_attributes (name_text net.name ++ items_text net.items) (codes "</net>")) (net_text net)
     (joined c.args.self.now c.push_attribute.new.self c.push.new.self id NET_TYPE.now c.in_ok-push_attribute.ensures c.in_ok-push.ensures)
     (net_is net) c.push_net_rest.ensures

@@ -2,7 +2,7 @@
 use Rattle.std.proofs.Common.{◌++◌, ◌∙◌, ap}
 use Rattle.std.specs.Prelude.{codes}
 use Rattle.pnml_grammar.specs.Canon.{name_text, items_text}
-use Rattle.pnml_write.specs.Elements.{behind_attributes}
+use Rattle.pnml_write.specs.Elements.{after_attributes}
 use Rattle.pnml_write.proofs.Pieces.{joined, finished}
 use Rattle.pnml_write.proofs.Labels.{labelled}
 use Rattle.pnml_write.proofs.Sequences.{items_some}
@@ -12,7 +12,7 @@ pub returns : goal.returns
 returns c =
     let name = name_text c.args.net.now.name in
     let items = items_text c.args.net.now.items in
-    finished c.push-2.result c.args.self.now c.push_items.new.self c.push-2.new.self (codes ">" ++ name ++ items) (codes "</net>") (behind_attributes (name ++ items) (codes "</net>"))
+    finished c.push-2.result c.args.self.now c.push_items.new.self c.push-2.new.self (codes ">" ++ name ++ items) (codes "</net>") (after_attributes (name ++ items) (codes "</net>"))
     (joined c.args.self.now c.push_name_if_any.new.self c.push_items.new.self (codes ">" ++ name) items
     (joined c.args.self.now c.push.new.self c.push_name_if_any.new.self (codes ">") name c.in_ok-push.ensures c.in_ok-push_name_if_any.ensures)
     (c.in_ok-push_items.ensures ∙ ap (λ t. c.push_name_if_any.new.self ++ items_text t) c.as_slice.ensures))

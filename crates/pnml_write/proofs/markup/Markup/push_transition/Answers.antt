@@ -1,8 +1,8 @@
--- The attribute and the rest behind it are the text of the transition.
+-- The attribute and the rest after it are the text of the transition.
 use Rattle.std.specs.Prelude.{codes}
 use Rattle.net_values.specs.declared.document.Item.TheVariants.{Transition}
 use Rattle.pnml_grammar.specs.Canon.{name_text, item_text}
-use Rattle.pnml_write.specs.Elements.{behind_attributes}
+use Rattle.pnml_write.specs.Elements.{after_attributes}
 use Rattle.pnml_write.proofs.Pieces.{finished}
 use Rattle.pnml_write.proofs.Shapes.{quoted, transition_is}
 use Rattle.pnml_write.proofs.markup.Markup.push_transition.Goals as goal
@@ -10,5 +10,5 @@ use Rattle.pnml_write.proofs.markup.Markup.push_transition.Goals as goal
 pub returns : goal.returns
 returns c =
     let node = c.args.transition.now in
-    finished c.push_named_rest.result c.args.self.now c.push_attribute.new.self c.push_named_rest.new.self (quoted (codes "<transition id=") node.id) (behind_attributes (name_text node.name) (codes "</transition>")) (item_text (Transition node))
+    finished c.push_named_rest.result c.args.self.now c.push_attribute.new.self c.push_named_rest.new.self (quoted (codes "<transition id=") node.id) (after_attributes (name_text node.name) (codes "</transition>")) (item_text (Transition node))
     c.in_ok-push_attribute.ensures (transition_is node) c.push_named_rest.ensures

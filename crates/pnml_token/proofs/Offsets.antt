@@ -1,5 +1,5 @@
 -- The first index at which a part occurs is where it is found from the front: where it doesn't occur at 0,
--- the search goes on behind the first byte, and every place there is one less.
+-- the search goes on after the first byte, and every offset there is one less.
 use Rattle.std.proofs.Common.{◌≡◌, ℕ, zero, suc, ◌+◌, ◌<◌, ◌≤◌, Bool, true, false, List, [], ◌∷◌, ◌++◌, Option, Some, None, take, drop, length, get_or, refl, sym, ap, subst, ◌∙◌, arith, inl, inr}
 use Rattle.std.specs.Prelude.{nat_eq, is_some, codes}
 use Rattle.std.specs.List.{starts_with}
@@ -85,7 +85,7 @@ found_until part bytes k h = first_until part bytes k (λ j lt occurs. h.0.befor
 pub none_until : (part bytes : List ℕ) → FindsNeedle bytes part 0 None → until part bytes ≡ None
 none_until part bytes h = nowhere_until part bytes (λ k le occurs. h k (omega arith) (omega arith) occurs)
 
--- where the last byte of `]]>` stands nowhere, neither does the whole
+-- where the last byte of `]]>` occurs nowhere, neither does the whole
 pub no_section_end : (bytes : List ℕ) → IsFirstByte (is_byte 62) bytes None → false ≡ is_some (until (codes "]]>") bytes)
 no_section_end bytes none =
     let nowhere : FindsNeedle bytes (codes "]]>") 0 None =
