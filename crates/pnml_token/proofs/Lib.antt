@@ -1,6 +1,6 @@
 -- Lemmas for the readers' code.
 pub mod Prefixes
-pub mod Places
+pub mod Offsets
 pub mod Texts
 pub mod RawAttributes
 pub mod AttributeLists

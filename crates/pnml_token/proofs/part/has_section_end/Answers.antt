@@ -1,6 +1,6 @@
 use Rattle.std.proofs.Common.{Option, ℕ, subst}
 use Rattle.memchr.specs.Find.{IsFirstByte, is_byte}
-use Rattle.pnml_token.proofs.Places.{no_section_end}
+use Rattle.pnml_token.proofs.Offsets.{no_section_end}
 use Rattle.pnml_token.proofs.part.has_section_end.Goals as goal
 
 pub returns-in-None : goal.returns-in-None

@@ -1,7 +1,7 @@
 -- Where the part is found first, and where it is nowhere.
 use Rattle.std.proofs.Common.{◌+◌, Some, take, sym, ap, ◌∙◌, List, ℕ, length}
 use Rattle.std.proofs.lemmas.List.{take_rest}
-use Rattle.pnml_token.proofs.Places.{found_until, none_until}
+use Rattle.pnml_token.proofs.Offsets.{found_until, none_until}
 use Rattle.pnml_token.proofs.part.until.Goals as goal
 
 pub returns-in_err-offset : goal.returns-in_err-offset
