@@ -5,6 +5,7 @@
 mod column;
 mod document;
 mod flat_net;
+mod limits;
 mod list;
 mod marking;
 mod no_memory;
@@ -22,6 +23,10 @@ pub use document::{
     ArcNode, Document, Item, Items, NetTree, PageNode, PlaceNode, RefNode, TransitionNode,
 };
 pub use flat_net::FlatNet;
+pub use limits::{
+    MAX_ARCS, MAX_ENTRIES, MAX_ID_BYTES, MAX_INPUT_BYTES, MAX_NAME_BYTES, MAX_OPEN_ELEMENTS,
+    MAX_PAGES, MAX_PLACES, MAX_REFERENCES, MAX_TOKEN_BYTES, MAX_TRANSITIONS,
+};
 pub use list::{CopyList, List};
 pub use marking::Marking;
 pub use no_memory::NoMemory;
