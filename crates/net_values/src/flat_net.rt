@@ -4,6 +4,7 @@ ghost use Rattle.net_values.specs.FlatNets.{turned};
 use crate::column::{Column, WeightedPlace};
 use crate::limits::{MAX_ARCS, MAX_PLACES, MAX_TRANSITIONS};
 use crate::no_memory::NoMemory;
+use crate::node_kind::NodeKind;
 use crate::text::Text;
 use std::alloc::Global;
 use std::marker::Model;
@@ -57,6 +58,7 @@ impl FlatNet {
     ghost use Rattle.net_values.specs.FlatNets.{net_of, place_at, transition_at, with_place, with_transition};
     ghost use Rattle.net_values.specs.FlatNets.{IsFlatNet, AddsInput, AddsOutput, KeepsNodes};
     ghost use Rattle.net_values.specs.Net.{reversed};
+    ghost use Rattle.net_values.specs.Nodes.{node_count, node_id};
 
     /// The empty net, which takes no memory until it grows.
     pub fn new(alloc: Global) -> FlatNet
@@ -163,6 +165,28 @@ impl FlatNet {
         ensures { result.now ≡ (transition_at self.now t).id }
     {
         &self.transitions[t].id
+    }
+
+    /// The number of places or of transitions.
+    pub fn nodes(&self, kind: NodeKind) -> usize
+        ensures value { result ≡ node_count kind self.now }
+        ensures limits { IsFlatNet self.now }
+    {
+        match kind {
+            NodeKind::Place => self.places(),
+            NodeKind::Transition => self.transitions(),
+        }
+    }
+
+    /// The id of place or transition `i`.
+    pub fn node_id(&self, kind: NodeKind, i: usize) -> &Text
+        requires { i < node_count kind self.now }
+        ensures { result.now ≡ node_id kind self.now i }
+    {
+        match kind {
+            NodeKind::Place => self.place_id(i),
+            NodeKind::Transition => self.transition_id(i),
+        }
     }
 
     /// The initial marking of place `p`.
