@@ -5,7 +5,7 @@ ghost use Rattle.std.specs.Cmp.{partial_order_from_own_ties};
 ghost use Rattle.std.specs.Cmp.Lexicographic.{slice_cmp};
 ghost use Rattle.std.specs.Cmp.Rules.{comparing};
 ghost use Rattle.std.specs.Ordering.{is_eq, as_partial_cmp, bool_cmp};
-ghost use Rattle.net_values.specs.PlaceSets.{has, IsEmpty, IsSubset};
+ghost use Rattle.net_values.specs.PlaceSets.{complement, has, IsEmpty, IsSubset};
 
 use crate::limits::MAX_ENTRIES;
 use crate::no_memory::NoMemory;
@@ -49,6 +49,25 @@ impl PlaceSet {
         Ok(PlaceSet {
             members: Vec::from_slice(alloc, self.members.as_slice())?,
         })
+    }
+
+    /// The set of the same size of the places that are not in this one.
+    pub fn complement(&self, alloc: Global) -> Result<PlaceSet, NoMemory>
+        ensures { IfOk result (λ others. others ≡ complement self.now) }
+    {
+        let mut members = Vec::with_capacity(alloc, self.size())?;
+        for member in self.members.as_slice() {
+            members.push(!*member)?;
+        }
+        Ok(PlaceSet { members })
+    }
+
+    /// Makes this set equal to another of the same size. It takes no memory.
+    pub fn copy_from(&mut self, other: &PlaceSet)
+        requires { length self.old ≡ length other.now }
+        ensures { self.new ≡ other.now }
+    {
+        self.members.copy_from_slice(other.members.as_slice());
     }
 
     /// The size: each place in the set is below it.
