@@ -5,6 +5,7 @@
 mod column;
 mod document;
 mod flat_net;
+mod laws;
 mod limits;
 mod list;
 mod marking;
@@ -24,6 +25,7 @@ pub use document::{
     ArcNode, Document, Item, Items, NetTree, PageNode, PlaceNode, RefNode, TransitionNode,
 };
 pub use flat_net::FlatNet;
+pub use laws::strictly_ascending_lists_are_one;
 pub use limits::{
     MAX_ARCS, MAX_ENTRIES, MAX_ID_BYTES, MAX_INPUT_BYTES, MAX_NAME_BYTES, MAX_OPEN_ELEMENTS,
     MAX_PAGES, MAX_PLACES, MAX_REFERENCES, MAX_TOKEN_BYTES, MAX_TRANSITIONS,
