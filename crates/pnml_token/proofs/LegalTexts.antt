@@ -9,7 +9,7 @@ use Rattle.std.proofs.lemmas.Str.{IsUtf8-from_is_utf8, is_utf8-from_IsUtf8, IsUt
 use Rattle.std.proofs.lemmas.Str.Ascii.{IsAscii-nil, IsAscii-cons}
 use Rattle.pnml_grammar.specs.Resolving.{is_legal_character}
 use Rattle.pnml_grammar.specs.Reading.{is_legal}
-use Rattle.pnml_token.specs.Classes.{is_plain_byte}
+use Rattle.pnml_token.specs.ByteClasses.{is_plain_byte}
 
 pub legal_text : (text bytes : List ℕ) (b : Bool) → (text ≡ bytes) × IsUtf8 bytes → b ≡ list_all is_legal_character (chars text) → b ≡ is_legal bytes
 unfolding is_legal
