@@ -91,6 +91,7 @@ fn number_after(base: u32, digits: &[u8]) -> Option<char>
     character(number)
 }
 
+#[tactic(auto, using(crate::proofs::LegalTexts::legal_character))]
 fn character(number: u32) -> Option<char>
     ensures { result ≡ number_after 10 number [] }
 {

@@ -1,7 +1,7 @@
 ghost use Rattle.std.specs.Prelude.{◌≡◌, ◌+◌, ◌<◌, ◌≤◌, ℕ, false, min, length, IfOk, IfErr};
 ghost use Rattle.pnml_grammar.specs.declared.token.Token.{Token as TheToken};
 ghost use Rattle.pnml_grammar.specs.Reading.{token_from, shape_at, characters_at};
-ghost use Rattle.pnml_grammar.specs.Tokens.{TokenAt, spelling_limit};
+ghost use Rattle.pnml_grammar.specs.Tokens.{TokenAt};
 ghost use Rattle.pnml_token.specs.Gives.{Gives};
 ghost use Rattle.pnml_token.specs.Steps.{IfToken, IfEnd, IfBadToken, IsEndIfAny, Finds};
 
@@ -74,7 +74,7 @@ fn token_within(alloc: Global, bytes: &[u8]) -> Result<(Token, usize), Miss>
 
 /// As many bytes as a spelling has at most, and one more, by which characters are seen to end.
 fn window_length(length: usize) -> usize
-    ensures { result ≡ min length (spelling_limit + 1) }
+    ensures { result ≡ min length (MAX_TOKEN_BYTES + 1) }
 {
     if length <= MAX_TOKEN_BYTES {
         length
