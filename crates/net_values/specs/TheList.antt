@@ -20,3 +20,12 @@ IsStrictlyAscending compare list = AllPairs (λ one later. compare one later ≡
 pub record IsTheList {X : Type 0} (compare : X → X → Ordering) (Property : X → Type 0) (list : List X) : Type 0 where
   pub ascending : IsStrictlyAscending compare list
   pub members : (x : X) → (Contains list x) ↔ Property x
+
+-- two lists have the same members
+abbrev pub HaveSameMembers : {X : Type 0} → List X → List X → Type 0
+HaveSameMembers {X} list other = (x : X) → (Contains list x) ↔ (Contains other x)
+
+-- strictly ascending lists with the same members are equal: the list of a property is one
+abbrev pub MembersMakeTheList : {X : Type 0} → (X → X → Ordering) → Type 0
+MembersMakeTheList {X} compare =
+    (list other : List X) → IsStrictlyAscending compare list → IsStrictlyAscending compare other → HaveSameMembers list other → list ≡ other
