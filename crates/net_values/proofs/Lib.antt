@@ -4,3 +4,4 @@ pub mod FlatNets
 pub mod TokenCounts
 pub mod Lowest
 pub mod SortedLists
+pub mod PlaceSets

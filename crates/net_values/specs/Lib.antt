@@ -7,4 +7,5 @@ pub mod TheList
 pub mod Columns
 pub mod Net
 pub mod FlatNets
+pub mod Nodes
 pub mod TokenGame

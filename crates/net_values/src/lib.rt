@@ -9,6 +9,7 @@ mod limits;
 mod list;
 mod marking;
 mod no_memory;
+mod node_kind;
 mod place_set;
 mod rows;
 mod sets;
@@ -30,6 +31,7 @@ pub use limits::{
 pub use list::{CopyList, List};
 pub use marking::Marking;
 pub use no_memory::NoMemory;
+pub use node_kind::NodeKind;
 pub use place_set::PlaceSet;
 pub use rows::Rows;
 pub use sets::Sets;

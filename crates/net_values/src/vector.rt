@@ -7,12 +7,13 @@ ghost use Rattle.std.specs.Cmp.Rules.{comparing};
 ghost use Rattle.std.specs.Ordering.{is_eq, as_partial_cmp, nat_cmp};
 ghost use Rattle.net_values.specs.Vectors.{IsVector, positive_part};
 
+use crate::limits::MAX_ENTRIES;
 use crate::no_memory::NoMemory;
 use std::alloc::Global;
 use std::cmp::Ordering;
 use std::marker::Model;
 
-/// A list of at most 4,096 entries, none negative. Contracts see it as the list of natural numbers.
+/// A list of at most `MAX_ENTRIES` entries, none negative. Contracts see it as the list of natural numbers.
 #[derive(Drop)]
 pub struct Vector {
     entries: Vec<u128>,
@@ -30,9 +31,9 @@ impl Model for Vector {
 }
 
 impl Vector {
-    /// The vector of this many zeros, at most 4,096.
+    /// The vector of this many zeros, at most `MAX_ENTRIES`.
     pub fn zeros(alloc: Global, length: usize) -> Result<Vector, NoMemory>
-        requires { length ≤ 4096 }
+        requires { length ≤ MAX_ENTRIES }
         ensures { IfOk result (λ vector. vector ≡ replicate length 0) }
     {
         Ok(Vector {
@@ -60,7 +61,7 @@ impl Vector {
     /// The number of entries.
     pub fn len(&self) -> usize
         ensures value { result ≡ length self.now }
-        ensures bound { result ≤ 4096 }
+        ensures bound { result ≤ MAX_ENTRIES }
     {
         self.entries.len()
     }
