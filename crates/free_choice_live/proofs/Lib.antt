@@ -1,3 +1,3 @@
 pub mod Counting
 pub mod Firing
-pub mod Liveness
+pub mod LostTransitions

@@ -2,5 +2,7 @@
 #![tactic(auto)]
 
 mod laws;
+mod liveness;
 
 pub use laws::{commoner_gives_liveness, live_nets_never_die};
+pub use liveness::{Liveness, live};

@@ -74,9 +74,9 @@ module _ (net : Net) (choice : IsFreeChoice net) (commoner : MeetsCommoner net) 
       let input = lost_input net M all.one choice.ordinary all.within (all.lost all.one all.within all.member) in
       let some = any_at net.places (stuck net M D) input.0 input.1.within (stuck_at M D input.0 all.one input.1.empty all.within all.member input.1.input) in
       let trap = commoner (stuck net M D) siphon some in
-      let marked = trap_along net trap.0 net.initial M all.reachable.0 trap.1 trap.3 all.reachable.1 in
-      let at = pair_from net.places trap.0 M marked in
-      let empty = stuck_empty M D at.0 (trap.2 at.0 at.1 at.2) in
+      let marked = trap_along net trap.trap net.initial M all.reachable.0 trap.closed trap.marked all.reachable.1 in
+      let at = pair_from net.places trap.trap M marked in
+      let empty = stuck_empty M D at.0 (trap.within at.0 at.1 at.2) in
       omega (arith, at.3)
 
   -- a firing list from a marking makes no place stuck
