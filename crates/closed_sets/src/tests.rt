@@ -4,7 +4,9 @@ use std::test::Fail;
 
 /// Two places in a ring, two in a line, and three in a line whose second transition comes first.
 const RING: &[Arc] = &[(0, 0, -1), (1, 0, 1), (1, 1, -1), (0, 1, 1)];
+
 const LINE: &[Arc] = &[(0, 0, -1), (1, 0, 1)];
+
 const TURNED_LINE: &[Arc] = &[(0, 1, -1), (1, 1, 1), (1, 0, -1), (2, 0, 1)];
 
 /// A net without tokens by its numbers of places and transitions and its arcs, a set of its places, and
@@ -42,7 +44,10 @@ fn siphons_and_traps_of_small_nets(rt: HostRuntime) -> Result<(), Fail> {
         let mut scratch = place_set(alloc, *places, &[])?;
         assert!(rt; net.places() == set.size() && net.places() == scratch.size());
         let minimal = is_minimal_siphon(&net, &set, &mut scratch);
-        assert_eq!(rt; [is_siphon(&net, &set), is_trap(&net, &set), minimal], *answers);
+        assert_eq!(rt;
+            [is_siphon(&net, &set), is_trap(&net, &set), minimal],
+            *answers
+        );
     }
     Ok(())
 }
