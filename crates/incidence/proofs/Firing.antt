@@ -1,13 +1,12 @@
 -- A firing changes y.M by the difference of the two sums of y at the transition's column, which are equal for a
--- semiflow. A single product is at most the sum.
+-- semiflow. A product by itself is at most the sum.
 use Rattle.std.proofs.Common.{◌≡◌, ap, ◌∙◌, ℕ, zero, suc, ◌+◌, ◌*◌, ◌-◌, ◌<◌, ◌≤◌, [], ◌∷◌, arith, inl, inr}
-use Rattle.std.proofs.lemmas.Bool.{cases_lt}
 use Rattle.net_values.specs.Net.{Net}
 use Rattle.net_values.specs.TokenGame.{IsEnabled, after}
 use Rattle.incidence.specs.Matrix.{incidence_of, gain_sum, loss_sum}
 use Rattle.incidence.specs.Sums.{sum_below}
 use Rattle.incidence.specs.Invariance.{weighted_tokens, IsPlaceSemiflow, WeightedTokensStay, SemiflowsBoundPlaces}
-use Rattle.incidence.proofs.Below.{below_same}
+use Rattle.incidence.proofs.Below.{below_same, below_part}
 
 -- where new + loss is old + gain term by term, so it is of the weighted sums
 exchanged : (n : ℕ) (y new loss old gain : ℕ → ℕ) → ((i : ℕ) → i < n → new i + loss i ≡ old i + gain i) → sum_below n (λ i. y i * new i) + sum_below n (λ i. y i * loss i) ≡ sum_below n (λ i. y i * old i) + sum_below n (λ i. y i * gain i)
@@ -30,16 +29,8 @@ weighted_tokens_stay net y M M' [] flow reached = below_same net.places (λ p. y
 weighted_tokens_stay net y M M' (t ∷ ts) flow reached =
     weighted_tokens_stay net y (after net M t) M' ts flow reached.2 ∙ kept net y M t flow reached.0 reached.1
 
-term_le : (n p : ℕ) (f : ℕ → ℕ) → p < n → f p ≤ sum_below n f
-term_le zero p f under = absurd (omega arith)
-term_le (suc n) p f under =
-    elim (cases_lt p n) [
-      | inl front ↦ let rest : f p ≤ sum_below n f = term_le n p f front in omega arith
-      | inr last ↦ let same : p ≡ n = omega arith in let here : f p ≡ f n = ap f same in omega arith
-    ]
-
 pub semiflows_bound_places : (net : Net) → SemiflowsBoundPlaces net
 semiflows_bound_places net y M p flow reachable under =
-    let part : y p * M p ≤ weighted_tokens net y M = term_le net.places p (λ q. y q * M q) under in
+    let part = below_part net.places p (λ q. y q * M q) under in
     let same = weighted_tokens_stay net y net.initial M reachable.0 flow reachable.1 in
     omega (arith, part, same)
