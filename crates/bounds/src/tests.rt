@@ -1,17 +1,11 @@
-ghost use Rattle.std.specs.Prelude.{◌≡◌, IfOk, length};
-ghost use Rattle.net_values.specs.FlatNets.{net_of};
-
 use super::*;
 use incidence::Incidence;
-use net_values::{FlatNet, Text};
+use net_values::FlatNet;
 use semiflow_elim::minimal_semiflows;
+use small_nets::{Arc, net_with};
 use std::alloc::Global;
 use std::process::Abort;
 use std::test::Fail;
-
-/// An arc of a place and a transition. It leads to the place where its weight is positive, and takes from
-/// it where that is negative.
-type Arc = (usize, usize, i128);
 
 /// A net by the initial tokens of its places and by its arcs, and the bound of each place with the number
 /// of the row that gives it, or the row whose tokens are too many.
@@ -112,30 +106,6 @@ const NETS: [BoundedNet; 8] = [
     },
 ];
 
-/// The flat net.
-fn net_with(rt: &impl Abort, alloc: Global, bounded: &BoundedNet) -> Result<FlatNet, Fail> {
-    let mut net = FlatNet::new(alloc);
-    for tokens in bounded.tokens {
-        assert!(rt; net.places() < 8);
-        net.add_place(Text::new(alloc), *tokens)?;
-    }
-    for _ in 0..bounded.transitions {
-        assert!(rt; net.transitions() < 8);
-        net.add_transition(Text::new(alloc))?;
-    }
-    for (place, transition, weight) in bounded.arcs {
-        let amount = weight.unsigned_abs();
-        assert!(rt; *place < net.places() && *transition < net.transitions());
-        assert!(rt; amount >= 1 && amount < 1 << 64 && net.arcs() < 64);
-        if *weight > 0 {
-            net.add_output(*transition, *place, amount as u64)?;
-        } else {
-            net.add_input(*place, *transition, amount as u64)?;
-        }
-    }
-    Ok(net)
-}
-
 /// The bounds of a net by its minimal semiflows.
 fn bounds_of(
     rt: &impl Abort,
@@ -153,7 +123,7 @@ fn the_named_nets_have_these_bounds(rt: HostRuntime) -> Result<(), Fail> {
     let alloc = rt.alloc();
     for bounded in &NETS {
         let name = bounded.name;
-        let net = net_with(&rt, alloc, bounded)?;
+        let net = net_with(alloc, bounded.tokens, bounded.transitions, bounded.arcs)?;
         match (bounds_of(&rt, alloc, &net)?, bounded.answer) {
             (Ok(bounds), Ok(wanted)) => {
                 assert_eq!(rt; bounds.places(), wanted.len(), "{name}");

@@ -6,7 +6,8 @@ use Rattle.pnml_grammar.specs.declared.token.Token.{Token}
 use Rattle.pnml_grammar.specs.declared.token.Token.TheVariants as tokens
 use Rattle.pnml_grammar.specs.Tokens.{TokenAt, first_offset}
 use Rattle.pnml_grammar.specs.FirstFault.{HasNoToken}
-use Rattle.pnml_grammar.specs.Machine.{State, start, reason_of, next}
+use Rattle.pnml_grammar.specs.OpenElements.{State}
+use Rattle.pnml_grammar.specs.Machine.{start, reason_of, next}
 use Rattle.pnml_grammar.specs.ReadTo.{IsReadTo}
 use Rattle.pnml_grammar.proofs.RunLaws.{some_is}
 use Rattle.pnml_grammar.proofs.OffsetLaws.{token_goes_on, token_end_inside}

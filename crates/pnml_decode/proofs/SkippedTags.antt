@@ -5,7 +5,8 @@ use Rattle.pnml_grammar.specs.declared.element.Context.TheVariants as contexts
 use Rattle.pnml_grammar.specs.Contents.{Content, nothing, gives}
 use Rattle.pnml_grammar.specs.Counts.{Counts, no_counts, ◌plus◌, tag_counts}
 use Rattle.pnml_grammar.specs.Elements.{context_in, element_named}
-use Rattle.pnml_grammar.specs.Machine.{State, receive, open_element, close_element}
+use Rattle.pnml_grammar.specs.OpenElements.{State}
+use Rattle.pnml_grammar.specs.Machine.{receive, open_element, close_element}
 use Rattle.pnml_grammar.proofs.ContentLaws.{then_nothing, plus_nothing}
 
 abbrev with_more : State → Content → Counts → State

@@ -7,7 +7,8 @@ use Rattle.pnml_grammar.specs.declared.reason.Reason.{Reason}
 use Rattle.pnml_grammar.specs.Counts.{Counts}
 use Rattle.pnml_grammar.specs.declared.reason.Reason.TheVariants.{BadNumber, Misplaced, TooDeep}
 use Rattle.pnml_grammar.specs.Elements.{may_hold}
-use Rattle.pnml_grammar.specs.Machine.{State, count_rows, first_row, is_number_text, is_second, is_pnml, is_full}
+use Rattle.pnml_grammar.specs.OpenElements.{State}
+use Rattle.pnml_grammar.specs.Reasons.{count_rows, first_row, is_number_text, is_second, is_pnml, is_full}
 
 abbrev pub count_rows_if_any : Counts → Option ElementKind → List (Bool × Reason)
 count_rows_if_any counts None = []

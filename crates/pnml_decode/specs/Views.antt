@@ -2,7 +2,8 @@
 use Rattle.std.specs.Prelude.{◌≡◌, List, map, reverse}
 use Rattle.pnml_grammar.specs.Contents.{Content as Given, ◌then◌, gives}
 use Rattle.pnml_grammar.specs.Counts.{Counts as Counted}
-use Rattle.pnml_grammar.specs.Machine.{Frame, State, receive}
+use Rattle.pnml_grammar.specs.OpenElements.{Frame, State}
+use Rattle.pnml_grammar.specs.Machine.{receive}
 use Rattle.pnml_decode.specs.declared.content.Content.{Content}
 use Rattle.pnml_decode.specs.declared.counts.Counts.{Counts}
 use Rattle.pnml_decode.specs.declared.open.Open.{Open}

@@ -1,7 +1,7 @@
 ghost use Rattle.std.specs.Prelude.{◌≡◌, nat_le, [], ◌∷◌, None};
 ghost use Rattle.pnml_grammar.specs.Counts.{no_counts, ◌plus◌, counts_of_kind, tag_counts};
 ghost use Rattle.pnml_grammar.specs.Elements.{element_named};
-ghost use Rattle.pnml_grammar.specs.Machine.{count_rows, first_row};
+ghost use Rattle.pnml_grammar.specs.Reasons.{count_rows, first_row};
 ghost use Rattle.pnml_decode.specs.Views.{counted};
 ghost use Rattle.pnml_decode.specs.Room.{HasRoom};
 

@@ -1,6 +1,6 @@
 ghost use Rattle.std.specs.Prelude.{◌≡◌};
 ghost use Rattle.pnml_grammar.specs.Elements.{is_skipped, context_in, context_of_kind, context_of_text, may_hold, needs};
-ghost use Rattle.pnml_grammar.specs.Machine.{is_pnml, is_number_text};
+ghost use Rattle.pnml_grammar.specs.Reasons.{is_pnml, is_number_text};
 
 use pnml_grammar::{AttributeKind, Context, ElementKind};
 

@@ -1,6 +1,6 @@
 ghost use Rattle.std.specs.Prelude.{◌≡◌, OnOk};
 ghost use Rattle.pnml_grammar.specs.Contents.{characters_content, cdata_content};
-ghost use Rattle.pnml_grammar.specs.Machine.{outermost};
+ghost use Rattle.pnml_grammar.specs.OpenElements.{outermost};
 ghost use Rattle.pnml_decode.specs.Views.{Gains, Receives, frame, given_by};
 
 use crate::content::Content;

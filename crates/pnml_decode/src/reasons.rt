@@ -1,5 +1,6 @@
 ghost use Rattle.std.specs.Prelude.{◌≡◌, [], ◌∷◌};
-ghost use Rattle.pnml_grammar.specs.Machine.{first_row, reason_of, open_rows, tag_rows, end_rows, end_rows_in, is_other_end, is_full, characters_rows, cdata_rows, name_rows, number_rows};
+ghost use Rattle.pnml_grammar.specs.Reasons.{first_row, open_rows, tag_rows, end_rows, end_rows_in, is_other_end, is_full, characters_rows, cdata_rows, name_rows, number_rows};
+ghost use Rattle.pnml_grammar.specs.Machine.{reason_of};
 ghost use Rattle.pnml_decode.specs.Views.{view, given};
 ghost use Rattle.pnml_decode.specs.Room.{place_rows};
 

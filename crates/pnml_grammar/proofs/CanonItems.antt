@@ -20,7 +20,9 @@ use Rattle.pnml_grammar.specs.Elements.{element_names, element_kinds, element_na
 use Rattle.pnml_grammar.specs.Contents.{gives, Content, nothing, one_item, first_value}
 use Rattle.pnml_grammar.specs.Counts.{Counts, ◌plus◌, counts_of_kind, IsWithin}
 use Rattle.pnml_grammar.specs.Valued.{IsNameIfAny, HasValuesInRange, name_height, item_height}
-use Rattle.pnml_grammar.specs.Machine.{Frame, State, is_second, is_number_text, is_pnml, receive}
+use Rattle.pnml_grammar.specs.OpenElements.{Frame, State}
+use Rattle.pnml_grammar.specs.Reasons.{is_second, is_number_text, is_pnml}
+use Rattle.pnml_grammar.specs.Machine.{receive}
 use Rattle.pnml_grammar.proofs.CanonTokens.{element_tokens, id_of, ref_of, source_of, target_of, name_tokens, marking_tokens, weight_tokens, item_tokens}
 use Rattle.pnml_grammar.proofs.MachineRuns.{IsTaken, Leads, leads_on, leads_token}
 use Rattle.pnml_grammar.proofs.CanonTags.{is_read, IsFree, HasAttributes, counted_room, inside, start_taken, opened_is, leads_child, page_attributes, place_attributes, transition_attributes, ref_place_attributes, ref_transition_attributes, arc_attributes}

@@ -15,7 +15,9 @@ use Rattle.pnml_grammar.specs.Contents.{Content, nothing, ◌then◌, gives, cha
 use Rattle.pnml_grammar.specs.Counts.{Counts, no_counts, ◌plus◌, counts_of_kind}
 use Rattle.pnml_grammar.specs.Numerals.{is_white, number_in}
 use Rattle.pnml_grammar.specs.Valued.{IsNameIfAny, name_height}
-use Rattle.pnml_grammar.specs.Machine.{Frame, State, is_number_text, is_second, is_pnml, receive}
+use Rattle.pnml_grammar.specs.OpenElements.{Frame, State}
+use Rattle.pnml_grammar.specs.Reasons.{is_number_text, is_second, is_pnml}
+use Rattle.pnml_grammar.specs.Machine.{receive}
 use Rattle.pnml_grammar.proofs.NumeralLaws.{decimal_marking, decimal_weight}
 use Rattle.pnml_grammar.proofs.CanonTokens.{value_tokens, element_tokens, label_tokens, name_tokens, marking_tokens, weight_tokens}
 use Rattle.pnml_grammar.proofs.MachineRuns.{Leads, leads_nowhere, leads_token, IsTaken}

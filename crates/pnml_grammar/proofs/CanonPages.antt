@@ -13,7 +13,8 @@ use Rattle.pnml_grammar.specs.declared.token.Token.{Token}
 use Rattle.pnml_grammar.specs.Contents.{nothing}
 use Rattle.pnml_grammar.specs.Counts.{Counts, no_counts, ◌plus◌, counts_of_kind, IsWithin}
 use Rattle.pnml_grammar.specs.Valued.{HasValuesInRange, item_height, PagesMatch, IsShallow}
-use Rattle.pnml_grammar.specs.Machine.{Frame, State, outermost, receive}
+use Rattle.pnml_grammar.specs.OpenElements.{Frame, State, outermost}
+use Rattle.pnml_grammar.specs.Machine.{receive}
 use Rattle.pnml_grammar.proofs.CanonTokens.{element_tokens, id_of, type_of, namespace_of, name_tokens, item_tokens, items_tokens}
 use Rattle.pnml_grammar.proofs.MachineRuns.{Leads, leads_nowhere, leads_on}
 use Rattle.pnml_grammar.proofs.CanonLabels.{plus_none, counts_are, names_of, named, frame}

@@ -19,7 +19,9 @@ use Rattle.pnml_grammar.specs.declared.token.Token.TheVariants as tokens
 use Rattle.pnml_grammar.specs.Elements.{element_named, attribute_names, attribute_kinds, attribute_named, is_id, fits, has_needed, has_attributes, has_namespace, has_type, may_hold, context_of_kind, context_in}
 use Rattle.pnml_grammar.specs.Contents.{Content, nothing, gives}
 use Rattle.pnml_grammar.specs.Counts.{Counts, ◌plus◌, counts_of_kind, counts_if_any, tag_counts, IsWithin}
-use Rattle.pnml_grammar.specs.Machine.{Frame, State, first_row, is_second, is_pnml, is_number_text, count_rows, is_full, tag_rows, open_rows_in, receive, open_element}
+use Rattle.pnml_grammar.specs.OpenElements.{Frame, State}
+use Rattle.pnml_grammar.specs.Reasons.{first_row, is_second, is_pnml, is_number_text, count_rows, is_full, tag_rows, open_rows_in}
+use Rattle.pnml_grammar.specs.Machine.{receive, open_element}
 use Rattle.pnml_grammar.proofs.EscapeLaws.{high_bytes}
 use Rattle.pnml_grammar.proofs.CanonTokens.{element_tokens, id_of, ref_of, source_of, target_of, type_of, namespace_of}
 use Rattle.pnml_grammar.proofs.MachineRuns.{Leads, IsTaken, leads_element}

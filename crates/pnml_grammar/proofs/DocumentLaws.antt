@@ -18,15 +18,17 @@ use Rattle.pnml_grammar.specs.Counts.{nodes_counts}
 use Rattle.pnml_grammar.specs.Documents.{depth_limit, HasFew, IsChild, EachChild, opening, Spells, SpellOneDocument}
 use Rattle.pnml_grammar.specs.Tokens.{first_offset}
 use Rattle.pnml_grammar.specs.LegalTexts.{HasLegalTexts}
-use Rattle.pnml_grammar.specs.Machine.{State, start, run, next, after_declaration, the_one, finish, reached, read}
-use Rattle.pnml_grammar.specs.FirstFault.{Opened, Spot, IsAfter, Begins, opened_tokens, state_of}
+use Rattle.pnml_grammar.specs.OpenElements.{State, Opened, Spot, IsAfter, opened_tokens, state_of}
+use Rattle.pnml_grammar.specs.Machine.{start, run, next, after_declaration, the_one, finish, reached, read}
+use Rattle.pnml_grammar.specs.FirstFault.{Begins}
 use Rattle.pnml_grammar.proofs.RunLaws.{bind_some, some_is}
 use Rattle.pnml_grammar.proofs.OffsetLaws.{one_list}
 use Rattle.pnml_grammar.proofs.EachLaws.{each_append, each_back}
 use Rattle.pnml_grammar.proofs.ValuedLaws.{valued_of}
 use Rattle.pnml_grammar.proofs.Spots.{IsSound, step_found, reached_occurs}
 use Rattle.pnml_grammar.proofs.Endings.{spot_at, spot_ends}
-use Rattle.pnml_grammar.proofs.ReadingTrees.{with_more, HasRoom, nodes_run, step_on}
+use Rattle.pnml_grammar.proofs.StepLaws.{run_taken}
+use Rattle.pnml_grammar.proofs.ReadingTrees.{with_more, HasRoom, nodes_run}
 
 -- ---- around the root
 
@@ -79,7 +81,7 @@ after_opening false nodes = no_declaration nodes
 
 -- ---- documents are read
 
-read_made : (list rest : List Token) (state : State) (document : Document) → after_declaration list ≡ rest → run start rest ≡ Some state → finish state ≡ Some document → read list ≡ Some document
+pub read_made : (list rest : List Token) (state : State) (document : Document) → after_declaration list ≡ rest → run start rest ≡ Some state → finish state ≡ Some document → read list ≡ Some document
 unfolding read reached
 read_made list rest state document front ran ends = rw (front, ran) ends
 
@@ -148,7 +150,7 @@ run_front [] ys state end e = (state, refl)
 run_front (token ∷ xs) ys state end e =
     let found = step_found state token (xs ++ ys) end e in
     let more = run_front xs ys (next state token) end found.1 in
-    (more.0, step_on state token xs found.0 ∙ more.1)
+    (more.0, run_taken state token xs found.0 ∙ more.1)
 
 pub reached_front : (list rest : List Token) (end : State) → reached (list ++ rest) ≡ Some end → (state : State) × (reached list ≡ Some state)
 unfolding reached

@@ -13,7 +13,7 @@ use Rattle.pnml_grammar.specs.Contents.{nodes_content}
 use Rattle.pnml_grammar.specs.Counts.{◌plus◌, IsWithin}
 use Rattle.pnml_grammar.specs.Documents.{depth_limit, is_complete}
 use Rattle.pnml_grammar.specs.LegalTexts.{HasLegalTexts}
-use Rattle.pnml_grammar.specs.FirstFault.{Opened, Spot, opened_tokens, frame_of, state_of}
+use Rattle.pnml_grammar.specs.OpenElements.{Opened, Spot, opened_tokens, frame_of, state_of}
 use Rattle.pnml_grammar.proofs.EachLaws.{each_append}
 use Rattle.pnml_grammar.proofs.ContentLaws.{plus_nothing}
 use Rattle.pnml_grammar.proofs.RowLaws.{is_outside}

@@ -16,7 +16,8 @@ use Rattle.pnml_grammar.specs.Runs.{beyond}
 use Rattle.pnml_grammar.specs.Contents.{Content, nothing, ◌then◌, characters_content, cdata_content}
 use Rattle.pnml_grammar.specs.Counts.{Counts, ◌plus◌, counts_of_kind, counts_if_any, tag_counts, IsWithin}
 use Rattle.pnml_grammar.specs.Documents.{depth_limit, name_limit, HasFew, is_complete, may_have_characters, may_have_cdata}
-use Rattle.pnml_grammar.specs.Machine.{Frame, State, first_row, has_some, is_pnml, is_number_text, is_full, count_rows, tag_rows, open_rows, is_other_end, end_rows_in, characters_rows, cdata_rows, name_rows, number_rows}
+use Rattle.pnml_grammar.specs.OpenElements.{Frame, State}
+use Rattle.pnml_grammar.specs.Reasons.{first_row, has_some, is_pnml, is_number_text, is_full, count_rows, tag_rows, open_rows, is_other_end, end_rows_in, characters_rows, cdata_rows, name_rows, number_rows}
 use Rattle.pnml_grammar.proofs.FirstLaws.{has_some_is, has_none, none_long, few_same, second_of, second_in}
 use Rattle.pnml_grammar.proofs.ContentLaws.{HaveFew, few_parts, few_from}
 

@@ -14,8 +14,8 @@ use Rattle.pnml_grammar.specs.Trees.{Node, element, empty_element, comment, inst
 use Rattle.pnml_grammar.specs.Contents.{nothing, ◌then◌, node_content, nodes_content, cdata_content, characters_content}
 use Rattle.pnml_grammar.specs.Counts.{no_counts, ◌plus◌, tag_counts, node_counts, nodes_counts, IsWithin}
 use Rattle.pnml_grammar.specs.Documents.{depth_limit, HasFew, is_complete, IsChild, EachChild, opening}
-use Rattle.pnml_grammar.specs.Machine.{Frame, State, run, step, next, reason_of, after_declaration, reached}
-use Rattle.pnml_grammar.specs.FirstFault.{Opened, Spot, IsAfter, opened_tokens, frame_of, frames_around, state_of}
+use Rattle.pnml_grammar.specs.OpenElements.{Frame, State, Opened, Spot, IsAfter, opened_tokens, frame_of, frames_around, state_of}
+use Rattle.pnml_grammar.specs.Machine.{run, step, next, reason_of, after_declaration, reached}
 use Rattle.pnml_grammar.proofs.RunLaws.{bind_some, chosen, some_is}
 use Rattle.pnml_grammar.proofs.ContentLaws.{plus_nothing, few_nothing, within_front}
 use Rattle.pnml_grammar.proofs.FirstLaws.{second_in, few_after, few_same}

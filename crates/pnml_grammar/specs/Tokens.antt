@@ -1,5 +1,5 @@
 -- Tokens and their spellings, and the tokens of a whole input.
-use Rattle.std.specs.Prelude.{◌≡◌, ◌≢◌, ℕ, ◌+◌, ◌≤◌, Bool, true, ◌==◌, not, if◌then◌else◌, List, [], ◌∷◌, ◌++◌, length, drop, nat_eq, codes}
+use Rattle.std.specs.Prelude.{◌≡◌, ◌≢◌, ℕ, ◌+◌, ◌≤◌, Bool, true, ◌==◌, not, ◌⊎◌, if◌then◌else◌, List, [], ◌∷◌, ◌++◌, length, drop, nat_eq, codes}
 use Rattle.std.specs.List.{starts_with}
 use Rattle.std.specs.Str.{str_to_ascii_lowercase}
 use Rattle.net_values.specs.Characters.{IsLegalText}
@@ -109,3 +109,8 @@ abbrev pub HasOneToken : Type 0
 HasOneToken =
     (bytes : List ℕ) (k : ℕ) (token other : Token) (e f : ℕ) → TokenAt bytes k token e → TokenAt bytes k other f
     → (token ≡ other) × (e ≡ f)
+
+-- at an offset a token occurs, or none does
+abbrev pub HasTokenOrNone : Type 0
+HasTokenOrNone =
+    (bytes : List ℕ) (k : ℕ) → ((token : Token) × (e : ℕ) × TokenAt bytes k token e) ⊎ ((token : Token) (e : ℕ) → TokenAt bytes k token e → ⊥)
