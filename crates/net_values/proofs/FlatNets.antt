@@ -4,6 +4,7 @@ use Rattle.std.proofs.Common.{◌≡◌, refl, sym, ap, ◌∙◌, subst, ℕ, z
 use Rattle.std.proofs.lemmas.Bool.{cases_eq, cases_lt}
 use Rattle.std.proofs.lemmas.Bool.Decides.{nat_tests}
 use Rattle.std.proofs.lemmas.List.{get_or-set_same, get_or-set_other, map-set, set-get_or, get_or-map, get_or_read, get_or_append_left, get_or_past, get_or_push, length-map, length_push, take_more}
+use Rattle.net_values.specs.declared.limits.TheConstants.{MAX_ARCS}
 use Rattle.net_values.specs.declared.column.WeightedPlace.{WeightedPlace}
 use Rattle.net_values.specs.declared.flat_net.FlatPlace.{FlatPlace}
 use Rattle.net_values.specs.declared.flat_net.FlatTransition.{FlatTransition}
@@ -11,7 +12,7 @@ use Rattle.net_values.specs.Columns.{weight_at, AddsAt, IsColumn, Lists}
 use Rattle.net_values.proofs.Columns.{weight_here, lists_itself}
 use Rattle.net_values.specs.FlatNets.{turned, with_place, with_transition, initial_marking, net_of, NetLists, AreWeights, IsFlatNet, Adds, Keeps, KeepsNodes, AddsInput, AddsOutput}
 
-pub few_tokens : {places arcs : ℕ} {weights : ℕ → ℕ → ℕ} → AreWeights places arcs weights → arcs ≤ 65536 → (p t : ℕ) → weights p t < 2 ^ 80
+pub few_tokens : {places arcs : ℕ} {weights : ℕ → ℕ → ℕ} → AreWeights places arcs weights → arcs ≤ MAX_ARCS → (p t : ℕ) → weights p t < 2 ^ 80
 few_tokens h few p t = omega (arith, h.narrow p t)
 
 abbrev bare : List ℕ → FlatTransition
@@ -29,7 +30,7 @@ module _ (side : FlatTransition → List WeightedPlace) where
   weights transitions p t = weight_at (side (get_or transitions t (bare []))) p
 
   -- the weights of a transition that was read
-  pub read_narrow : (places arcs : ℕ) (transitions : List FlatTransition) (t p : ℕ) (transition : FlatTransition) → AreWeights places arcs (weights transitions) → arcs ≤ 65536 → t < length transitions → transition ≡ get_or transitions t transition → weight_at (side transition) p < 2 ^ 80
+  pub read_narrow : (places arcs : ℕ) (transitions : List FlatTransition) (t p : ℕ) (transition : FlatTransition) → AreWeights places arcs (weights transitions) → arcs ≤ MAX_ARCS → t < length transitions → transition ≡ get_or transitions t transition → weight_at (side transition) p < 2 ^ 80
   read_narrow places arcs transitions t p transition h few within read =
       let same : transition ≡ get_or transitions t (bare []) = get_or_read transitions t transition within read (bare []) in
       rw same (few_tokens h few p t)
@@ -72,7 +73,7 @@ module _ (side : FlatTransition → List WeightedPlace) where
       ]
 
   -- the entries of a column that was read are the weights of its transition
-  pub read_entries : (places arcs : ℕ) (transitions : List FlatTransition) (t : ℕ) (transition : FlatTransition) (column : List WeightedPlace) → AreWeights places arcs (weights transitions) → arcs ≤ 65536 → t < length transitions → transition ≡ get_or transitions t transition → column ≡ side transition → IsColumn column → Lists places (λ p. weights transitions p t) column × All (λ entry. entry.weight < 2 ^ 80) column
+  pub read_entries : (places arcs : ℕ) (transitions : List FlatTransition) (t : ℕ) (transition : FlatTransition) (column : List WeightedPlace) → AreWeights places arcs (weights transitions) → arcs ≤ MAX_ARCS → t < length transitions → transition ≡ get_or transitions t transition → column ≡ side transition → IsColumn column → Lists places (λ p. weights transitions p t) column × All (λ entry. entry.weight < 2 ^ 80) column
   read_entries places arcs transitions t transition column h few within read is kept =
       let same : column ≡ side (get_or transitions t (bare [])) = is ∙ ap side (get_or_read transitions t transition within read (bare [])) in
       let weighs : (p : ℕ) → weight_at column p ≡ weights transitions p t = λ p. ap (λ (entries : List WeightedPlace). weight_at entries p) same in (

@@ -4,3 +4,5 @@ pub mod FlatNets
 pub mod TokenCounts
 pub mod Lowest
 pub mod SortedLists
+pub mod OneList
+pub mod PlaceSets

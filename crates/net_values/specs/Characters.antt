@@ -2,6 +2,7 @@
 use Rattle.std.specs.Prelude.{◌≡◌, ◌≢◌, ℕ, ◌≤◌, ◌<◌, ◌⊎◌, List, length}
 use Rattle.std.specs.List.{AllByRecursion}
 use Rattle.std.specs.Str.{encode_utf8_all}
+use Rattle.net_values.specs.declared.limits.TheConstants.{MAX_ID_BYTES, MAX_NAME_BYTES}
 
 -- a number from low to high
 abbrev pub IsBetween : ℕ → ℕ → ℕ → Type 0
@@ -25,13 +26,13 @@ IsLegalText = IsTextOf IsLegalCharacter
 abbrev pub IsIdCharacter : ℕ → Type 0
 IsIdCharacter c = IsLegalCharacter c × (0x20 < c) × (c ≢ 0x7F)
 
--- a value of `id`, `source`, `target` or `ref`: 1 to 4,096 bytes
+-- a value of id, source, target or ref: 1 to MAX_ID_BYTES bytes
 pub record IsId (bytes : List ℕ) : Type 0 where
   pub characters : IsTextOf IsIdCharacter bytes
   pub nonempty : 1 ≤ length bytes
-  pub short : length bytes ≤ 4096
+  pub short : length bytes ≤ MAX_ID_BYTES
 
--- the value of a name: at most 65,536 bytes
+-- the value of a name: at most MAX_NAME_BYTES bytes
 pub record IsNameValue (bytes : List ℕ) : Type 0 where
   pub characters : IsLegalText bytes
-  pub short : length bytes ≤ 65536
+  pub short : length bytes ≤ MAX_NAME_BYTES

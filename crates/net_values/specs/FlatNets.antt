@@ -1,6 +1,7 @@
 -- A net with its ids, as lists: the places and the transitions in order, and the number of arcs that
 -- were added. The net itself is read off by `net_of`.
 use Rattle.std.specs.Prelude.{◌≡◌, ℕ, ◌+◌, ◌-◌, ◌*◌, ◌^◌, ◌<◌, ◌≤◌, ◌==◌, ◌&&◌, if◌then◌else◌, List, [], ◌∷◌, ◌++◌, length, map, slice_index_or}
+use Rattle.net_values.specs.declared.limits.TheConstants.{MAX_PLACES, MAX_TRANSITIONS, MAX_ARCS}
 use Rattle.net_values.specs.declared.flat_net.FlatPlace.{FlatPlace}
 use Rattle.net_values.specs.declared.flat_net.FlatTransition.{FlatTransition}
 use Rattle.net_values.specs.Columns.{weight_at}
@@ -50,11 +51,11 @@ pub record AreWeights (places arcs : ℕ) (weights : ℕ → ℕ → ℕ) : Type
   pub within : (p t : ℕ) → 0 < weights p t → p < places
   pub narrow : (p t : ℕ) → weights p t ≤ arcs * (2 ^ 64 - 1)
 
--- at most 2,048 places, 2,048 transitions and 65,536 arcs, so that no weight exceeds 2^80
+-- at most MAX_PLACES places, MAX_TRANSITIONS transitions and MAX_ARCS arcs, so that no weight exceeds 2^80
 pub record IsFlatNet (lists : NetLists) : Type 0 where
-  pub places : length lists.places ≤ 2048
-  pub transitions : length lists.transitions ≤ 2048
-  pub arcs : lists.arcs ≤ 65536
+  pub places : length lists.places ≤ MAX_PLACES
+  pub transitions : length lists.transitions ≤ MAX_TRANSITIONS
+  pub arcs : lists.arcs ≤ MAX_ARCS
   pub pre : AreWeights (length lists.places) lists.arcs (net_of lists).pre
   pub post : AreWeights (length lists.places) lists.arcs (net_of lists).post
 

@@ -1,12 +1,13 @@
 -- Vectors of natural numbers, as the lists of their entries.
 use Rattle.std.specs.Prelude.{ℕ, ◌<◌, ◌≤◌, ◌^◌, ℤ, pos, negsuc, List, length, All}
+use Rattle.net_values.specs.declared.limits.TheConstants.{MAX_ENTRIES}
 
 -- a whole number where it is positive, else 0
 abbrev pub positive_part : ℤ → ℕ
 positive_part (pos n) = n
 positive_part (negsuc n) = 0
 
--- the entries of a vector: at most 4,096, each at most 2^127 - 1
+-- the entries of a vector: at most MAX_ENTRIES, each at most 2^127 - 1
 pub record IsVector (entries : List ℕ) : Type 0 where
-  pub short : length entries ≤ 4096
+  pub short : length entries ≤ MAX_ENTRIES
   pub narrow : All (λ entry. entry < 2 ^ 127) entries

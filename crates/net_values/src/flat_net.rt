@@ -2,7 +2,9 @@ ghost use Rattle.std.specs.Prelude.{◌≡◌, IfOk, map};
 ghost use Rattle.net_values.specs.FlatNets.{turned};
 
 use crate::column::{Column, WeightedPlace};
+use crate::limits::{MAX_ARCS, MAX_PLACES, MAX_TRANSITIONS};
 use crate::no_memory::NoMemory;
+use crate::node_kind::NodeKind;
 use crate::text::Text;
 use std::alloc::Global;
 use std::marker::Model;
@@ -22,8 +24,9 @@ pub struct FlatTransition {
     pub outputs: Column,
 }
 
-/// A place/transition net (ISO/IEC 15909-1) with at most 2,048 places, 2,048 transitions and 65,536
-/// arcs. Contracts see its places and transitions in order and the number of arcs that were added.
+/// A place/transition net (ISO/IEC 15909-1) with at most `MAX_PLACES` places, `MAX_TRANSITIONS`
+/// transitions and `MAX_ARCS` arcs. Contracts see its places and transitions in order and the number
+/// of arcs that were added.
 #[derive(Drop)]
 pub struct FlatNet {
     places: Vec<FlatPlace>,
@@ -55,6 +58,7 @@ impl FlatNet {
     ghost use Rattle.net_values.specs.FlatNets.{net_of, place_at, transition_at, with_place, with_transition};
     ghost use Rattle.net_values.specs.FlatNets.{IsFlatNet, AddsInput, AddsOutput, KeepsNodes};
     ghost use Rattle.net_values.specs.Net.{reversed};
+    ghost use Rattle.net_values.specs.Nodes.{node_count, node_id};
 
     /// The empty net, which takes no memory until it grows.
     pub fn new(alloc: Global) -> FlatNet
@@ -70,7 +74,7 @@ impl FlatNet {
     /// Appends a place with its initial marking. A refusal leaves the net unchanged and drops the
     /// id.
     pub fn add_place(&mut self, id: Text, initial: u64) -> Result<(), NoMemory>
-        requires { length self.old.places < 2048 }
+        requires { length self.old.places < MAX_PLACES }
         ensures ok { OnOk result (self.new ≡ with_place self.old id initial) }
         ensures err { OnErr result (self.new ≡ self.old) }
     {
@@ -80,7 +84,7 @@ impl FlatNet {
 
     /// Appends a transition without arcs. A refusal leaves the net unchanged and drops the id.
     pub fn add_transition(&mut self, id: Text) -> Result<(), NoMemory>
-        requires { length self.old.transitions < 2048 }
+        requires { length self.old.transitions < MAX_TRANSITIONS }
         ensures ok { OnOk result (self.new ≡ with_transition self.old id) }
         ensures err { OnErr result (self.new ≡ self.old) }
     {
@@ -99,7 +103,7 @@ impl FlatNet {
         requires place { p < (net_of self.old).places }
         requires transition { t < (net_of self.old).transitions }
         requires positive { 1 ≤ weight }
-        requires room { self.old.arcs < 65536 }
+        requires room { self.old.arcs < MAX_ARCS }
         ensures ok { OnOk result (AddsInput self.old self.new p t weight) }
         ensures err { OnErr result (self.new ≡ self.old) }
     {
@@ -114,7 +118,7 @@ impl FlatNet {
         requires place { p < (net_of self.old).places }
         requires transition { t < (net_of self.old).transitions }
         requires positive { 1 ≤ weight }
-        requires room { self.old.arcs < 65536 }
+        requires room { self.old.arcs < MAX_ARCS }
         ensures ok { OnOk result (AddsOutput self.old self.new t p weight) }
         ensures err { OnErr result (self.new ≡ self.old) }
     {
@@ -123,7 +127,7 @@ impl FlatNet {
         Ok(())
     }
 
-    /// The number of places, which is at most 2,048.
+    /// The number of places, which is at most `MAX_PLACES`.
     pub fn places(&self) -> usize
         ensures value { result ≡ (net_of self.now).places }
         ensures limits { IsFlatNet self.now }
@@ -131,7 +135,7 @@ impl FlatNet {
         self.places.len()
     }
 
-    /// The number of transitions, which is at most 2,048.
+    /// The number of transitions, which is at most `MAX_TRANSITIONS`.
     pub fn transitions(&self) -> usize
         ensures value { result ≡ (net_of self.now).transitions }
         ensures limits { IsFlatNet self.now }
@@ -139,7 +143,7 @@ impl FlatNet {
         self.transitions.len()
     }
 
-    /// The number of arcs that were added, which is at most 65,536.
+    /// The number of arcs that were added, which is at most `MAX_ARCS`.
     pub fn arcs(&self) -> usize
         ensures value { result ≡ self.now.arcs }
         ensures limits { IsFlatNet self.now }
@@ -161,6 +165,28 @@ impl FlatNet {
         ensures { result.now ≡ (transition_at self.now t).id }
     {
         &self.transitions[t].id
+    }
+
+    /// The number of places or of transitions.
+    pub fn nodes(&self, kind: NodeKind) -> usize
+        ensures value { result ≡ node_count kind self.now }
+        ensures limits { IsFlatNet self.now }
+    {
+        match kind {
+            NodeKind::Place => self.places(),
+            NodeKind::Transition => self.transitions(),
+        }
+    }
+
+    /// The id of place or transition `i`.
+    pub fn node_id(&self, kind: NodeKind, i: usize) -> &Text
+        requires { i < node_count kind self.now }
+        ensures { result.now ≡ node_id kind self.now i }
+    {
+        match kind {
+            NodeKind::Place => self.place_id(i),
+            NodeKind::Transition => self.transition_id(i),
+        }
     }
 
     /// The initial marking of place `p`.

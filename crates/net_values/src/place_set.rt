@@ -5,8 +5,10 @@ ghost use Rattle.std.specs.Cmp.{partial_order_from_own_ties};
 ghost use Rattle.std.specs.Cmp.Lexicographic.{slice_cmp};
 ghost use Rattle.std.specs.Cmp.Rules.{comparing};
 ghost use Rattle.std.specs.Ordering.{is_eq, as_partial_cmp, bool_cmp};
-ghost use Rattle.net_values.specs.PlaceSets.{has, IsEmpty, IsSubset};
+ghost use Rattle.net_values.specs.PlaceSets.{complement, has, IsEmpty, IsSubset};
 
+use crate::alike::{AlikeList, Listed};
+use crate::limits::MAX_ENTRIES;
 use crate::no_memory::NoMemory;
 use std::alloc::Global;
 use std::cmp::Ordering;
@@ -21,18 +23,19 @@ pub struct PlaceSet {
 
 impl Model for PlaceSet {
     ghost use Rattle.std.specs.Prelude.{List, Bool, ◌≤◌, length};
+    ghost use Rattle.net_values.specs.declared.limits.TheConstants.{MAX_ENTRIES};
 
     ghost Value = { List Bool };
 
     ghost view = { λ s. s.members.items };
 
-    ghost invariant = { λ s. length s.members.items ≤ 4096 };
+    ghost invariant = { λ s. length s.members.items ≤ MAX_ENTRIES };
 }
 
 impl PlaceSet {
-    /// The empty set of this size, which is at most 4,096.
+    /// The empty set of this size, which is at most `MAX_ENTRIES`.
     pub fn new(alloc: Global, size: usize) -> Result<PlaceSet, NoMemory>
-        requires { size ≤ 4096 }
+        requires { size ≤ MAX_ENTRIES }
         ensures { IfOk result (λ set. set ≡ replicate size false) }
     {
         Ok(PlaceSet {
@@ -49,10 +52,29 @@ impl PlaceSet {
         })
     }
 
+    /// The set of the same size of the places that are not in this one.
+    pub fn complement(&self, alloc: Global) -> Result<PlaceSet, NoMemory>
+        ensures { IfOk result (λ others. others ≡ complement self.now) }
+    {
+        let mut members = Vec::with_capacity(alloc, self.size())?;
+        for member in self.members.as_slice() {
+            members.push(!*member)?;
+        }
+        Ok(PlaceSet { members })
+    }
+
+    /// Makes this set equal to another of the same size. It takes no memory.
+    pub fn copy_from(&mut self, other: &PlaceSet)
+        requires { length self.old ≡ length other.now }
+        ensures { self.new ≡ other.now }
+    {
+        self.members.copy_from_slice(other.members.as_slice());
+    }
+
     /// The size: each place in the set is below it.
     pub fn size(&self) -> usize
         ensures value { result ≡ length self.now }
-        ensures bound { result ≤ 4096 }
+        ensures bound { result ≤ MAX_ENTRIES }
     {
         self.members.len()
     }
@@ -139,3 +161,17 @@ impl Ord for PlaceSet {
         self.members.cmp(&other.members)
     }
 }
+
+impl Listed for PlaceSet {
+    ghost use Rattle.std.specs.Prelude.{length};
+    ghost use Rattle.std.specs.FinMap.{slice_cmp-IsAntisymmetric};
+    ghost use Rattle.net_values.specs.Comparisons.{bool_cmp-IsAntisymmetric};
+
+    ghost size = { length };
+
+    ghost exact = { slice_cmp-IsAntisymmetric bool_cmp-IsAntisymmetric };
+}
+
+/// A list of place sets of one size. Contracts see it as the list of their lists of truth values, and
+/// sort it in lexicographic order of these.
+pub type Sets = AlikeList<PlaceSet>;

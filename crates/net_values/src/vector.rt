@@ -7,12 +7,14 @@ ghost use Rattle.std.specs.Cmp.Rules.{comparing};
 ghost use Rattle.std.specs.Ordering.{is_eq, as_partial_cmp, nat_cmp};
 ghost use Rattle.net_values.specs.Vectors.{IsVector, positive_part};
 
+use crate::alike::{AlikeList, Listed};
+use crate::limits::MAX_ENTRIES;
 use crate::no_memory::NoMemory;
 use std::alloc::Global;
 use std::cmp::Ordering;
 use std::marker::Model;
 
-/// A list of at most 4,096 entries, none negative. Contracts see it as the list of natural numbers.
+/// A list of at most `MAX_ENTRIES` entries, none negative. Contracts see it as the list of natural numbers.
 #[derive(Drop)]
 pub struct Vector {
     entries: Vec<u128>,
@@ -30,9 +32,9 @@ impl Model for Vector {
 }
 
 impl Vector {
-    /// The vector of this many zeros, at most 4,096.
+    /// The vector of this many zeros, at most `MAX_ENTRIES`.
     pub fn zeros(alloc: Global, length: usize) -> Result<Vector, NoMemory>
-        requires { length ≤ 4096 }
+        requires { length ≤ MAX_ENTRIES }
         ensures { IfOk result (λ vector. vector ≡ replicate length 0) }
     {
         Ok(Vector {
@@ -60,7 +62,7 @@ impl Vector {
     /// The number of entries.
     pub fn len(&self) -> usize
         ensures value { result ≡ length self.now }
-        ensures bound { result ≤ 4096 }
+        ensures bound { result ≤ MAX_ENTRIES }
     {
         self.entries.len()
     }
@@ -131,3 +133,16 @@ impl Ord for Vector {
         self.entries.cmp(&other.entries)
     }
 }
+
+impl Listed for Vector {
+    ghost use Rattle.std.specs.Prelude.{length};
+    ghost use Rattle.std.specs.FinMap.{nat_cmp-IsAntisymmetric, slice_cmp-IsAntisymmetric};
+
+    ghost size = { length };
+
+    ghost exact = { slice_cmp-IsAntisymmetric nat_cmp-IsAntisymmetric };
+}
+
+/// A list of vectors of one length, as a matrix has them for its rows. Contracts see it as the list of
+/// their lists of entries, and sort it in lexicographic order of the entries.
+pub type Rows = AlikeList<Vector>;

@@ -12,19 +12,21 @@ use Rattle.pnml_grammar.specs.Tokens.{TokenAt, TokensTo, first_offset}
 use Rattle.pnml_grammar.specs.LegalTexts.{HasLegalTexts}
 use Rattle.pnml_grammar.specs.Runs.{◌>>=◌}
 use Rattle.pnml_grammar.specs.Documents.{DocBytes}
-use Rattle.pnml_grammar.specs.Machine.{State, reason_of, finish, reached, read}
+use Rattle.pnml_grammar.specs.OpenElements.{State, state_of}
+use Rattle.pnml_grammar.specs.Machine.{reason_of, finish, reached, read}
 use Rattle.pnml_grammar.specs.FirstFault.{Begins, IsFaulty, HasNoToken, IsFirstFaulty, FirstFault, not_utf8, truncated}
 use Rattle.pnml_grammar.specs.ReadTo.{IsReadTo}
 use Rattle.pnml_grammar.proofs.LegalLaws.{token_is_legal}
 use Rattle.pnml_grammar.proofs.EachLaws.{each_front}
 use Rattle.pnml_grammar.proofs.OffsetLaws.{token_end_inside, token_goes_on, tokens_ascend, one_goes_on, one_list}
 use Rattle.pnml_grammar.proofs.TokenLaws.{one_token_occurs}
-use Rattle.pnml_grammar.proofs.ReadToLaws.{token_is_refused}
+use Rattle.pnml_grammar.proofs.StepLaws.{reason_later}
+use Rattle.pnml_grammar.proofs.ReadToLaws.{token_is_refused, not_in_front}
 use Rattle.pnml_grammar.proofs.DocumentLaws.{spells_read, reached_spot, reached_front, read_spells, begins_reached, reached_begins}
 
 -- ---- what was read begins a document
 
-tokens_are_legal : (bytes : List ℕ) (list : List Token) (k e : ℕ) → TokensTo bytes k list e → AllByRecursion HasLegalTexts list
+pub tokens_are_legal : (bytes : List ℕ) (list : List Token) (k e : ℕ) → TokensTo bytes k list e → AllByRecursion HasLegalTexts list
 tokens_are_legal bytes [] k e to = tt
 tokens_are_legal bytes (token ∷ list) k e to = (token_is_legal bytes k token to.0 to.1, tokens_are_legal bytes list to.0 e to.2)
 
@@ -71,7 +73,7 @@ missing_token_is_faulty bytes k state reason read inside missing = record {
   because = inl missing;
 }
 
-nothing_reached : (list : List Token) → reached list ≡ None → Begins list → ⊥
+pub nothing_reached : (list : List Token) → reached list ≡ None → Begins list → ⊥
 nothing_reached list none begins =
     let some = begins_reached list begins in
     let both = sym none ∙ some.1 in
@@ -101,7 +103,7 @@ refused_token_is_faulty bytes k state token e reason read at some =
         token = token;
         end = e;
         occurs = at;
-        applies = ap (λ (s : State). reason_of s token) spot.2 ∙ some;
+        applies = reason_later read.list (state_of spot.0) token (not_in_front bytes k state token e read at) ∙ ap (λ (s : State). reason_of s token) spot.2 ∙ some;
       };
     }
 

@@ -24,6 +24,7 @@ pub mod ValuedLaws
 pub mod ContentLaws
 pub mod FirstLaws
 pub mod RowLaws
+pub mod StepLaws
 pub mod ReadingTrees
 pub mod LastNodes
 pub mod Spots
@@ -37,6 +38,7 @@ pub mod ReadToLaws
 pub mod FaultLaws
 pub mod SpotLaws
 pub mod OneFault
+pub mod SomeAnswer
 pub mod CanonTokens
 pub mod CanonPieces
 pub mod CanonElements

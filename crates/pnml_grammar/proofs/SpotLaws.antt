@@ -9,8 +9,8 @@ use Rattle.pnml_grammar.specs.Trees.{Node, element, empty_element, comment, inst
 use Rattle.pnml_grammar.specs.Contents.{node_content, nodes_content, cdata_content, characters_content}
 use Rattle.pnml_grammar.specs.Counts.{node_counts, nodes_counts, tag_counts}
 use Rattle.pnml_grammar.specs.Documents.{opening}
-use Rattle.pnml_grammar.specs.Machine.{State, start, next, open_element}
-use Rattle.pnml_grammar.specs.FirstFault.{Opened, Spot, opened_tokens, IsAfter, frame_of, frames_around, opened_counts, state_of}
+use Rattle.pnml_grammar.specs.OpenElements.{State, Opened, Spot, opened_tokens, IsAfter, frame_of, frames_around, opened_counts, state_of}
+use Rattle.pnml_grammar.specs.Machine.{start, next, open_element}
 use Rattle.pnml_grammar.proofs.ContentLaws.{nothing_plus, plus_assoc}
 use Rattle.pnml_grammar.proofs.ReadingTrees.{with_more, more_nothing, more_twice, put_more, closed_more}
 

@@ -19,8 +19,10 @@ pub mod Trees
 pub mod Contents
 pub mod Counts
 pub mod Documents
-pub mod Machine
+pub mod OpenElements
+pub mod Reasons
 pub mod FirstFault
+pub mod Machine
 pub mod ReadTo
 pub mod LegalTexts
 pub mod CanonicalTexts
