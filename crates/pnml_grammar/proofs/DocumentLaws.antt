@@ -56,14 +56,7 @@ outside_gives none each = refl
 outside_gives (node and nodes) each = ap₂ ◌then◌ (outside_gives_one node each.0) (outside_gives nodes each.1)
 
 few_nets : (nets : List NetTree) (net : NetTree) → nets ≡ net ∷ [] → HasFew (record nothing { nets = nets })
-few_nets nets net one = let long : length nets ≡ 1 = ap length one in record {
-  nets = omega arith;
-  names = omega arith;
-  numbers = omega arith;
-  texts = omega arith;
-  bytes = omega arith;
-  numerals = omega arith;
-}
+few_nets nets net one = omega (arith, ap length one)
 
 -- ---- the declaration in front
 
