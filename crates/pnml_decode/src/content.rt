@@ -1,7 +1,7 @@
 ghost use Rattle.std.specs.Prelude.{◌≡◌, ◌∷◌, ◌++◌, [], OnOk};
 ghost use Rattle.net_values.specs.declared.document.Item.TheVariants.{Page, PageEnd};
 ghost use Rattle.pnml_grammar.specs.Contents.{nothing, one_item};
-ghost use Rattle.pnml_grammar.specs.Machine.{has_some, is_second};
+ghost use Rattle.pnml_grammar.specs.Reasons.{has_some, is_second};
 ghost use Rattle.pnml_decode.specs.Views.{given, Gains};
 
 use net_values::{Item, Items, List, NetTree, NoMemory, PageNode, Text};

@@ -1,27 +1,17 @@
--- The canonical text spells its document: its tokens are in it, each with legal texts, and they are read as
+-- The canonical text spells its document: its tokens occur in it, each with legal texts, and they are read as
 -- the document.
-use Rattle.std.proofs.Common.{ℕ, sym, ap, subst, List, [], ◌∷◌, length}
-use Rattle.std.specs.List.{AllByRecursion}
-use Rattle.net_values.specs.declared.document.Document.{Document}
-use Rattle.pnml_grammar.specs.declared.token.Token.{Token}
-use Rattle.pnml_grammar.specs.Tokens.{TokensTo, first_offset}
-use Rattle.pnml_grammar.specs.LegalTexts.{HasLegalTexts}
-use Rattle.pnml_grammar.specs.Valued.{Valued}
+use Rattle.std.proofs.Common.{sym, ap, subst, length}
+use Rattle.pnml_grammar.specs.Tokens.{first_offset}
 use Rattle.pnml_grammar.specs.Documents.{DocBytes}
 use Rattle.pnml_grammar.specs.Canon.{canon}
-use Rattle.pnml_grammar.specs.CanonicalTexts.{TellDocumentsApart}
-use Rattle.pnml_grammar.proofs.LegalLaws.{token_is_legal}
+use Rattle.pnml_grammar.specs.CanonicalTexts.{SpellTheirDocuments, TellDocumentsApart}
+use Rattle.pnml_grammar.proofs.ReasonLaws.{tokens_are_legal}
 use Rattle.pnml_grammar.proofs.DocumentLaws.{read_spells, spells_one}
 use Rattle.pnml_grammar.proofs.CanonTokens.{canon_tokens}
 use Rattle.pnml_grammar.proofs.CanonSpelling.{canon_spelled}
 use Rattle.pnml_grammar.proofs.CanonReading.{canon_read}
 
--- the texts of the tokens that occur are legal
-tokens_are_legal : (bytes : List ℕ) (list : List Token) (k e : ℕ) → TokensTo bytes k list e → AllByRecursion HasLegalTexts list
-tokens_are_legal bytes [] k e to = tt
-tokens_are_legal bytes (token ∷ list) k e to = (token_is_legal bytes k token to.0 to.1, tokens_are_legal bytes list to.0 e to.2)
-
-pub canon_is : (document : Document) → Valued document → DocBytes document (canon document)
+pub canon_is : SpellTheirDocuments
 canon_is document valued =
     let spelled = canon_spelled document valued in
     let legal = tokens_are_legal (canon document) (canon_tokens document) (first_offset (canon document)) (length (canon document)) spelled in

@@ -12,7 +12,9 @@ use Rattle.pnml_grammar.specs.Elements.{element_names, element_kinds, element_na
 use Rattle.pnml_grammar.specs.Contents.{nothing}
 use Rattle.pnml_grammar.specs.Counts.{Counts, no_counts, ◌plus◌, IsWithin}
 use Rattle.pnml_grammar.specs.Valued.{Valued, IsWithinLimits, name_height}
-use Rattle.pnml_grammar.specs.Machine.{State, outermost, start, run, after_declaration, finish, reached, read}
+use Rattle.pnml_grammar.specs.OpenElements.{State, outermost}
+use Rattle.pnml_grammar.specs.Machine.{start, run, after_declaration, read}
+use Rattle.pnml_grammar.proofs.DocumentLaws.{read_made}
 use Rattle.pnml_grammar.proofs.CanonTokens.{id_of, type_of, namespace_of, name_tokens, items_tokens, net_tokens, canon_tokens}
 use Rattle.pnml_grammar.proofs.MachineRuns.{Leads, leads_on, leads_token, leads_element}
 use Rattle.pnml_grammar.proofs.CanonTags.{IsFree, inside, net_attributes, pnml_attributes, start_taken, empty_taken, opened_is}
@@ -21,13 +23,7 @@ use Rattle.pnml_grammar.proofs.CanonItems.{first_named}
 use Rattle.pnml_grammar.proofs.CanonPages.{items_counts, root_frame, around, state_of, items_lead}
 
 limits_within : (items : List Item) → IsWithinLimits items → IsWithin (no_counts plus items_counts items)
-limits_within items limits = record {
-  places = omega (arith, limits.places);
-  transitions = omega (arith, limits.transitions);
-  arcs = omega (arith, limits.arcs);
-  references = omega (arith, limits.references);
-  pages = omega (arith, limits.pages);
-}
+limits_within items limits = omega (arith, limits)
 
 -- ---- the net
 
@@ -105,10 +101,6 @@ document_leads document valued =
     (leads_on start root_state (with_net net counts) root (net_tokens net) root_opens (net_leads document valued))
     (root_closes net counts))
     (line_feed_leads net counts)
-
-read_made : (list tail : List Token) (state : State) (document : Document) → after_declaration list ≡ tail → run start tail ≡ Some state → finish state ≡ Some document → read list ≡ Some document
-unfolding read reached
-read_made list tail state document e0 e1 e2 = rw (e0, e1) e2
 
 headed : (document : Document) → after_declaration (canon_tokens document) ≡ root_tokens document
 unfolding canon_tokens root_tokens

@@ -11,7 +11,7 @@ use Rattle.pnml_grammar.specs.declared.token.Attribute.{Attribute}
 use Rattle.pnml_grammar.specs.Elements.{element_named, context_in, context_if_any, context_of_kind, may_hold, may_occur, may_occur_as}
 use Rattle.pnml_grammar.specs.Contents.{Content, nothing, ◌then◌, gives}
 use Rattle.pnml_grammar.specs.Documents.{HasFew, is_complete}
-use Rattle.pnml_grammar.specs.Machine.{has_some, is_second}
+use Rattle.pnml_grammar.specs.Reasons.{has_some, is_second}
 use Rattle.pnml_grammar.proofs.ContentLaws.{then_nothing, few_parts, few_from}
 
 -- ---- lists of one at most

@@ -24,6 +24,7 @@ pub mod ValuedLaws
 pub mod ContentLaws
 pub mod FirstLaws
 pub mod RowLaws
+pub mod StepLaws
 pub mod ReadingTrees
 pub mod LastNodes
 pub mod Spots
@@ -34,9 +35,11 @@ pub mod DocumentLaws
 pub mod ValuedWalks
 pub mod ValuedTestLaws
 pub mod ReadToLaws
-pub mod FaultLaws
 pub mod SpotLaws
+pub mod ReasonLaws
+pub mod FaultLaws
 pub mod OneFault
+pub mod SomeAnswer
 pub mod CanonTokens
 pub mod CanonPieces
 pub mod CanonElements

@@ -1,12 +1,12 @@
 -- Runs of the reading over whole pieces of tokens: what a piece does is said of the state before and the state
 -- after it, whatever follows. An empty tag does what its start tag and its end tag do.
-use Rattle.std.proofs.Common.{◌≡◌, ℕ, cond, List, [], ◌∷◌, ◌++◌, Some, None, refl, ap, subst, ◌∙◌, append_assoc}
-use Rattle.std.specs.Prelude.{is_none}
+use Rattle.std.proofs.Common.{◌≡◌, ℕ, List, [], ◌∷◌, ◌++◌, None, refl, ap, subst, ◌∙◌, append_assoc}
 use Rattle.pnml_grammar.specs.declared.token.Attribute.{Attribute}
 use Rattle.pnml_grammar.specs.declared.token.Token.{Token}
 use Rattle.pnml_grammar.specs.declared.token.Token.TheVariants as tokens
-use Rattle.pnml_grammar.specs.Machine.{State, reason_of, next, step, run, open_element, close_element}
-use Rattle.pnml_grammar.specs.Runs.{◌>>=◌}
+use Rattle.pnml_grammar.specs.OpenElements.{State}
+use Rattle.pnml_grammar.specs.Machine.{reason_of, next, run, open_element, close_element}
+use Rattle.pnml_grammar.proofs.StepLaws.{run_taken}
 use Rattle.pnml_grammar.proofs.RunLaws.{some_is}
 use Rattle.pnml_grammar.proofs.CanonTokens.{element_tokens}
 
@@ -25,12 +25,6 @@ leads_on before middle beyond list more first second = record {
 -- no reason applies to the token
 abbrev pub IsTaken : State → Token → Type 0
 IsTaken state token = reason_of state token ≡ None
-
-step_taken : (state : State) (token : Token) → IsTaken state token → step state token ≡ Some (next state token)
-step_taken state token taken = ap (λ reason. cond (is_none reason) (Some (next state token)) None) taken
-
-run_taken : (state : State) (token : Token) (rest : List Token) → IsTaken state token → run state (token ∷ rest) ≡ run (next state token) rest
-run_taken state token rest taken = ap (λ after. after >>= λ state. run state rest) (step_taken state token taken)
 
 pub leads_token : (state : State) (token : Token) → IsTaken state token → Leads state (token ∷ []) (next state token)
 leads_token state token taken = record { whatever = λ rest. run_taken state token rest taken }

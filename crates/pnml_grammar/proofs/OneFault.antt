@@ -1,7 +1,7 @@
 -- Bytes have at most one fault: one faulty offset lies before no other, and what is there tells the reason.
 -- They have none where they spell a document: they are text then, and each front of its tokens begins it.
 use Rattle.std.proofs.Common.{◌≡◌, ℕ, ◌+◌, ◌<◌, ◌≤◌, Bool, true, false, cond, List, [], ◌∷◌, ◌++◌, refl, sym, ap, subst, ◌∙◌, arith, inl, inr, length, drop, drop-drop, append_assoc}
-use Rattle.std.specs.Prelude.{◌⊎◌, IsUtf8, nat_eq}
+use Rattle.std.specs.Prelude.{IsUtf8, nat_eq}
 use Rattle.std.specs.List.{starts_with}
 use Rattle.std.proofs.lemmas.Str.{IsUtf8-append, IsUtf8-nil}
 use Rattle.std.proofs.Math.Seq.{drop-append_seam, drop-length}
@@ -10,8 +10,9 @@ use Rattle.pnml_grammar.specs.declared.reason.Reason.{Reason}
 use Rattle.pnml_grammar.specs.declared.token.Token.{Token}
 use Rattle.pnml_grammar.specs.Tokens.{TokensTo, first_offset}
 use Rattle.pnml_grammar.specs.Documents.{Spells, DocBytes}
-use Rattle.pnml_grammar.specs.Machine.{State, reason_of}
-use Rattle.pnml_grammar.specs.FirstFault.{state_of, IsFaulty, HasNoToken, HasBadToken, IsFirstFaulty, IsUtf8UpTo, Fault, not_utf8, at, truncated, FirstFault, HaveOneAnswer}
+use Rattle.pnml_grammar.specs.OpenElements.{State, state_of}
+use Rattle.pnml_grammar.specs.Reasons.{reason_after}
+use Rattle.pnml_grammar.specs.FirstFault.{IsFaulty, HasBadToken, Applies, IsFirstFaulty, IsUtf8UpTo, Fault, not_utf8, at, truncated, FirstFault, HaveOneAnswer}
 use Rattle.pnml_grammar.proofs.RunLaws.{some_is, past_text_found}
 use Rattle.pnml_grammar.proofs.TextLaws.{legal_utf8}
 use Rattle.pnml_grammar.proofs.OffsetLaws.{tokens_ascend, one_goes_on, one_list}
@@ -26,9 +27,10 @@ bad_reason bytes k reason other one two =
     let states = one_state_after one.spot two.spot one.list one.beyond (lists ∙ two.beyond) in
     let tokens = (one_token_occurs bytes k one.token two.token one.end two.end one.occurs two.occurs).0 in
     some_is reason other
-    (sym one.applies ∙ ap (λ (s : State). reason_of s one.token) states ∙ ap (reason_of (state_of two.spot)) tokens ∙ two.applies)
+    (sym one.applies ∙ ap (λ (list : List Token). reason_after list (state_of one.spot) one.token) lists
+    ∙ ap (λ (s : State). reason_after two.list s one.token) states ∙ ap (reason_after two.list (state_of two.spot)) tokens ∙ two.applies)
 
-one_reason : (bytes : List ℕ) (k : ℕ) (reason other : Reason) → HasNoToken bytes k reason ⊎ HasBadToken bytes k reason → HasNoToken bytes k other ⊎ HasBadToken bytes k other → reason ≡ other
+one_reason : (bytes : List ℕ) (k : ℕ) (reason other : Reason) → Applies bytes k reason → Applies bytes k other → reason ≡ other
 one_reason bytes k reason other (inl one) (inl two) = one.reason_is ∙ sym two.reason_is
 one_reason bytes k reason other (inl one) (inr two) = absurd (one.nothing_there two.token two.end two.occurs)
 one_reason bytes k reason other (inr one) (inl two) = absurd (two.nothing_there one.token one.end one.occurs)
@@ -42,7 +44,7 @@ one_place bytes k j reason other one two = omega (arith, one.lowest j two.faulty
 same_at : (bytes : List ℕ) (k j : ℕ) (reason other : Reason) → IsFirstFaulty bytes k reason → IsFirstFaulty bytes j other → at k reason ≡ at j other
 same_at bytes k j reason other one two =
     let places = one_place bytes k j reason other one two in
-    let there = subst (λ (p : ℕ). HasNoToken bytes p other ⊎ HasBadToken bytes p other) (sym places) two.because in
+    let there = subst (λ (p : ℕ). Applies bytes p other) (sym places) two.because in
     ap (λ (p : ℕ). at p reason) places ∙ ap (at j) (one_reason bytes k reason other one.because there)
 
 one_front : (bytes : List ℕ) (k j : ℕ) → IsUtf8UpTo bytes k → IsUtf8UpTo bytes j → k ≤ j

@@ -1,13 +1,13 @@
--- What was read up to an offset goes on by a token to which no reason applies, and stops at one to which one
--- does.
+-- What was read up to an offset goes on by a token to which no reason applies.
 use Rattle.std.proofs.Common.{◌≡◌, ℕ, List, [], ◌∷◌, ◌++◌, Option, Some, None, refl, ap, subst, ◌∙◌}
-use Rattle.pnml_grammar.specs.declared.reason.Reason.{Reason}
 use Rattle.pnml_grammar.specs.declared.token.Token.{Token}
 use Rattle.pnml_grammar.specs.declared.token.Token.TheVariants as tokens
 use Rattle.pnml_grammar.specs.Tokens.{TokenAt, first_offset}
 use Rattle.pnml_grammar.specs.Runs.{◌>>=◌}
-use Rattle.pnml_grammar.specs.Machine.{State, start, reason_of, next, step, run, after_declaration, reached}
+use Rattle.pnml_grammar.specs.OpenElements.{State}
+use Rattle.pnml_grammar.specs.Machine.{start, reason_of, next, step, run, after_declaration, reached}
 use Rattle.pnml_grammar.specs.ReadTo.{IsReadTo}
+use Rattle.pnml_grammar.proofs.StepLaws.{step_taken, IsLater}
 use Rattle.pnml_grammar.proofs.OffsetLaws.{tokens_then}
 
 -- ---- runs
@@ -30,7 +30,7 @@ declaration_in_front _ list more = refl
 -- ---- what was read up to an offset
 
 -- a declaration that is no first token is taken like any other token
-after_one_more : (list : List Token) (token : Token) → (list ≡ [] → token ≡ tokens.Declaration → ⊥) → after_declaration (list ++ token ∷ []) ≡ after_declaration list ++ token ∷ []
+after_one_more : (list : List Token) (token : Token) → IsLater list token → after_declaration (list ++ token ∷ []) ≡ after_declaration list ++ token ∷ []
 after_one_more (first ∷ list) token later = declaration_in_front first list (token ∷ [])
 after_one_more [] tokens.Declaration later = absurd (later refl refl)
 after_one_more [] _ later = refl
@@ -43,7 +43,7 @@ one_step state token = bind_some_again (step state token)
     bind_some_again (Some s) = refl
 
 -- a list with one token more leads to the step by the token
-pub reached_one_more : (list : List Token) (token : Token) (state : State) → (list ≡ [] → token ≡ tokens.Declaration → ⊥) → reached list ≡ Some state
+pub reached_one_more : (list : List Token) (token : Token) (state : State) → IsLater list token → reached list ≡ Some state
     → reached (list ++ token ∷ []) ≡ step state token
 unfolding reached
 reached_one_more list token state later leads =
@@ -54,14 +54,8 @@ reached_one_more list token state later leads =
 
 -- at the offset of a token it's no declaration in front
 pub not_in_front : (bytes : List ℕ) (k : ℕ) (state : State) (token : Token) (e : ℕ) (read : IsReadTo bytes k state) → TokenAt bytes k token e
-    → read.list ≡ [] → token ≡ tokens.Declaration → ⊥
+    → IsLater read.list token
 not_in_front bytes k state token e read at first declaration = read.declared first e (subst (λ (t : Token). TokenAt bytes k t e) declaration at)
-
-step_taken : (state : State) (token : Token) → reason_of state token ≡ None → step state token ≡ Some (next state token)
-step_taken state token none = rw none refl
-
-step_refused : (state : State) (token : Token) (reason : Reason) → reason_of state token ≡ Some reason → step state token ≡ None
-step_refused state token reason some = rw some refl
 
 -- nothing was read in front of the first token, if it isn't a declaration
 pub nothing_is_read : (bytes : List ℕ) → ((e : ℕ) → TokenAt bytes (first_offset bytes) tokens.Declaration e → ⊥) → IsReadTo bytes (first_offset bytes) start
@@ -86,9 +80,3 @@ token_is_read bytes k state token e read at none = record {
     none_empty : (list : List Token) (token : Token) → list ++ token ∷ [] ≡ [] → ⊥
     none_empty [] token e = absurd cc
     none_empty (first ∷ list) token e = absurd cc
-
--- a token to which a reason applies goes on to nothing that is read
-pub token_is_refused : (bytes : List ℕ) (k : ℕ) (state : State) (token : Token) (e : ℕ) (reason : Reason) (read : IsReadTo bytes k state) → TokenAt bytes k token e → reason_of state token ≡ Some reason
-    → reached (read.list ++ token ∷ []) ≡ None
-token_is_refused bytes k state token e reason read at some =
-    reached_one_more read.list token state (not_in_front bytes k state token e read at) read.leads ∙ step_refused state token reason some

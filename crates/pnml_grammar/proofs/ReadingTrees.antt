@@ -3,6 +3,7 @@
 -- have room.
 use Rattle.std.proofs.Common.{◌≡◌, ℕ, suc, ◌+◌, ◌≤◌, refl, sym, ap, subst, ◌∙◌, List, [], ◌∷◌, ◌++◌, append_assoc, length, Option, Some, None, true, false, IsTrue, arith, bytes_eq, true≢false}
 use Rattle.std.proofs.lemmas.Slice.Eq.{bytes_eq-Decides}
+use Rattle.net_values.specs.declared.limits.TheConstants.{MAX_OPEN_ELEMENTS}
 use Rattle.pnml_grammar.specs.declared.element.ElementKind.{ElementKind}
 use Rattle.pnml_grammar.specs.declared.element.ElementKind.TheVariants as elements
 use Rattle.pnml_grammar.specs.declared.element.Context.{Context}
@@ -14,10 +15,12 @@ use Rattle.pnml_grammar.specs.Elements.{element_named, context_in, context_if_an
 use Rattle.pnml_grammar.specs.Trees.{Node, element, empty_element, comment, instruction, cdata, characters, Nodes, none, ◌and◌, node_tokens, nodes_tokens, node_height, nodes_height}
 use Rattle.pnml_grammar.specs.Contents.{Content, nothing, ◌then◌, gives, node_content, nodes_content, cdata_content, characters_content}
 use Rattle.pnml_grammar.specs.Counts.{Counts, no_counts, ◌plus◌, tag_counts, node_counts, nodes_counts, IsWithin}
-use Rattle.pnml_grammar.specs.Documents.{depth_limit, HasFew, is_complete, IsChild, EachChild}
-use Rattle.pnml_grammar.specs.Machine.{State, run, next, reason_of, receive, put, open_element, close_element}
+use Rattle.pnml_grammar.specs.Documents.{HasFew, is_complete, IsChild, EachChild}
+use Rattle.pnml_grammar.specs.OpenElements.{State}
+use Rattle.pnml_grammar.specs.Machine.{run, receive, put, open_element, close_element}
 use Rattle.pnml_grammar.proofs.ContentLaws.{then_nothing, then_assoc, plus_nothing, plus_assoc, within_front, few_front}
 use Rattle.pnml_grammar.proofs.FirstLaws.{is_first}
+use Rattle.pnml_grammar.proofs.StepLaws.{run_taken}
 use Rattle.pnml_grammar.proofs.RowLaws.{is_outside, MayOpen, open_none, end_none, characters_none, cdata_none}
 
 -- no element's children are around the root
@@ -38,9 +41,6 @@ any_inside (Some kind) context = kind_inside kind context
 pub inside_element : (context : Context) (kind : Option ElementKind) → is_outside (context_in context kind) ≡ false
 inside_element contexts.Skipped kind = refl
 inside_element context kind = any_inside kind context
-
-pub step_on : (state : State) (token : Token) (list : List Token) → reason_of state token ≡ None → run state (token ∷ list) ≡ run (next state token) list
-step_on state token list e = rw e refl
 
 -- ---- what is read of elements
 
@@ -77,7 +77,7 @@ closed_more state name attributes content counts = λ i. record {
 
 -- there is room for elements of this height, which give this and count so many
 pub record HasRoom (state : State) (height : ℕ) (content : Content) (counts : Counts) : Type 0 where
-  pub shallow : length state.under + height ≤ depth_limit
+  pub shallow : length state.under + height ≤ MAX_OPEN_ELEMENTS
   pub few : HasFew (state.top.content then content)
   pub counted : IsWithin (state.counts plus counts)
 
@@ -129,7 +129,7 @@ end_run : (state : State) (name : List ℕ) (attributes : List Attribute) (conte
     ≡ run (with_more state (gives (context_in state.top.context (element_named name)) attributes content) (tag_counts state.top.context name plus counts)) rest
 end_run state name attributes content counts rest complete =
     let inner = context_in state.top.context (element_named name) in
-    step_on (with_more (open_element state name attributes) content counts) (tokens.End name) rest
+    run_taken (with_more (open_element state name attributes) content counts) (tokens.End name) rest
     (end_none inner content name name (record { inside = inside_element state.top.context (element_named name); same = same_bytes name; complete = complete }))
     ∙ ap (λ s. run s rest) (closed_more state name attributes content counts)
 
@@ -168,21 +168,21 @@ mutual
   node_run (element name attributes children) state rest child room =
       let inner = context_in state.top.context (element_named name) in
       ap (run state) (element_tokens (tokens.Start name attributes) (tokens.End name) (nodes_tokens children) rest)
-      ∙ step_on state (tokens.Start name attributes) (nodes_tokens children ++ tokens.End name ∷ rest)
+      ∙ run_taken state (tokens.Start name attributes) (nodes_tokens children ++ tokens.End name ∷ rest)
       (open_none state false name attributes (start_occurs state name attributes children child room))
       ∙ nodes_run children (open_element state name attributes) (tokens.End name ∷ rest) child.1 (children_room state name attributes children child room)
       ∙ end_run state name attributes (nodes_content inner children) (nodes_counts inner children) rest child.2.complete
   node_run (empty_element name attributes) state rest child room =
-      step_on state (tokens.Empty name attributes) rest (open_none state true name attributes (empty_occurs state name attributes child room))
+      run_taken state (tokens.Empty name attributes) rest (open_none state true name attributes (empty_occurs state name attributes child room))
   node_run comment state rest child room =
-      step_on state tokens.Comment rest refl ∙ ap (λ s. run s rest) (sym (more_nothing state))
+      run_taken state tokens.Comment rest refl ∙ ap (λ s. run s rest) (sym (more_nothing state))
   node_run instruction state rest child room =
-      step_on state tokens.Instruction rest refl ∙ ap (λ s. run s rest) (sym (more_nothing state))
+      run_taken state tokens.Instruction rest refl ∙ ap (λ s. run s rest) (sym (more_nothing state))
   node_run (cdata value) state rest child room =
-      step_on state (tokens.Cdata value) rest (cdata_none state.top.context state.top.content value (record { occurs = child; few = room.few }))
+      run_taken state (tokens.Cdata value) rest (cdata_none state.top.context state.top.content value (record { occurs = child; few = room.few }))
       ∙ ap (λ s. run s rest) (put_more state (cdata_content state.top.context value))
   node_run (characters value) state rest child room =
-      step_on state (tokens.Characters value) rest (characters_none state.top.context state.top.content value (record { occurs = child; few = room.few }))
+      run_taken state (tokens.Characters value) rest (characters_none state.top.context state.top.content value (record { occurs = child; few = room.few }))
       ∙ ap (λ s. run s rest) (put_more state (characters_content state.top.context value))
 
   pub nodes_run : (nodes : Nodes) (state : State) (rest : List Token) → EachChild state.top.context nodes

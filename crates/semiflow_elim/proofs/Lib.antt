@@ -11,5 +11,4 @@ pub mod Units
 pub mod Listed
 pub mod Generation
 pub mod Offers
-pub mod OneList
 pub mod ColumnOrder

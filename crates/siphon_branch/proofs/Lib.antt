@@ -6,5 +6,6 @@ pub mod Roots
 pub mod Keeping
 pub mod MinimalGrown
 pub mod Sorting
-pub mod Covers
 pub mod LiveClasses
+pub mod Limits
+pub mod TrapLists

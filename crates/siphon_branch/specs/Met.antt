@@ -1,36 +1,11 @@
--- The sets that a search meets, as lists: each set is the list of truth values that tell for each place of
--- the net whether it is in.
-use Rattle.std.specs.Prelude.{◌≡◌, ◌↔◌, ◌≤◌, ℕ, ◌+◌, List, Bool, ◌++◌, length, AllPairs, Any, Contains}
+-- What a search meets: lists of sets, each of which is the list of truth values that tell for each place of the
+-- net whether it is in.
+use Rattle.std.specs.Prelude.{◌≡◌, ◌↔◌, ◌≤◌, ℕ, ◌+◌, List, Bool, ◌++◌, length, Contains}
 use Rattle.net_values.specs.Net.{Net}
 use Rattle.net_values.specs.PlaceSets.{has}
-use Rattle.closed_sets.specs.ClosedSets.{IsSiphon, IsWithin, IsNonempty, IsMinimalSiphon}
-use Rattle.closed_sets.specs.Growth.{Belongs, GrowsWhole, IsGrown}
-
--- a grown siphon of the net
-pub record IsGrownSet (net : Net) (set : List Bool) : Type 0 where
-  pub size : length set ≡ net.places
-  pub grown : IsGrown net (has set)
-
--- a minimal siphon of the net
-pub record IsMinimalSet (net : Net) (set : List Bool) : Type 0 where
-  pub size : length set ≡ net.places
-  pub minimal : IsMinimalSiphon net (has set)
-
--- no member occurs twice
-abbrev pub AreDistinct : {X : Type 0} → List X → Type 0
-AreDistinct list = AllPairs (λ one later. one ≡ later → ⊥) list
-
--- the net has at most this many grown siphons: they all are in a list of this length
-pub record HasAtMostGrown (net : Net) (sets : ℕ) : Type 0 where
-  pub grown : List (List Bool)
-  pub few : length grown ≤ sets
-  pub every : (set : List Bool) → IsGrownSet net set → Contains grown set
-
--- one more distinct grown siphons than the limit
-pub record PassesLimit (net : Net) (sets : ℕ) (carried : List (List Bool)) : Type 0 where
-  pub count : length carried ≡ sets + 1
-  pub distinct : AreDistinct carried
-  pub grown : (set : List Bool) → Contains carried set → IsGrownSet net set
+use Rattle.closed_sets.specs.ClosedSets.{IsSiphon}
+use Rattle.closed_sets.specs.Growth.{Belongs, GrowsWhole}
+use Rattle.siphon_branch.specs.Limits.{AreDistinct}
 
 -- the list has exactly the sets with the property, each once
 pub record IsListOf (Property : List Bool → Type 0) (list : List (List Bool)) : Type 0 where
@@ -66,7 +41,3 @@ pub record Meets (Property : List Bool → Type 0) (limit : ℕ) (old new : List
 pub record Overruns (Property : List Bool → Type 0) (limit : ℕ) (old new : List (List Bool)) : Type 0 where
   pub adds : AddsSome Property old new
   pub count : length new ≡ limit + 1
-
--- every nonempty siphon contains a listed set
-abbrev pub CoversSiphons : Net → List (List Bool) → Type 0
-CoversSiphons net list = (S : ℕ → Bool) → IsSiphon net S → IsNonempty net S → Any (λ set. IsWithin net (has set) S) list

@@ -5,10 +5,12 @@ ghost use Rattle.net_values.specs.FlatNets.{net_of};
 ghost use Rattle.net_values.specs.PlaceSets.{has};
 ghost use Rattle.net_values.specs.TheList.{IsTheList};
 ghost use Rattle.closed_sets.specs.ClosedSets.{IsMinimalSiphon};
+ghost use Rattle.closed_sets.specs.MinimalSets.{CoversSiphons, IsMinimalSet};
 ghost use Rattle.siphon_branch.specs.Faults.{FailsToList};
-ghost use Rattle.siphon_branch.specs.Met.{AreDistinct, CoversSiphons, HasAtMostGrown, IsListOf, IsMinimalSet};
+ghost use Rattle.siphon_branch.specs.Limits.{AreDistinct, HasAtMostGrown};
+ghost use Rattle.siphon_branch.specs.Met.{IsListOf};
 
-use crate::fault::{SetFault, Stop};
+use crate::fault::{SearchFault, SetFault};
 use crate::search::meet_all;
 use closed_sets::is_minimal_siphon;
 use net_values::{FlatNet, NoMemory, PlaceSet, Sets};
@@ -30,8 +32,8 @@ pub fn minimal_siphons(alloc: Global, net: &FlatNet, sets: u32) -> Result<Sets, 
             found.sort();
             Ok(found)
         }
-        Err(Stop::SetLimit) => Err(SetFault::SetLimit(met)),
-        Err(Stop::NoMemory) => Err(SetFault::NoMemory),
+        Err(SearchFault::SetLimit) => Err(SetFault::SetLimit(met)),
+        Err(SearchFault::NoMemory) => Err(SetFault::NoMemory),
     }
 }
 

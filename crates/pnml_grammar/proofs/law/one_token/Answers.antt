@@ -1,6 +1,0 @@
--- Both are what is read there.
-use Rattle.pnml_grammar.proofs.TokenLaws.{one_token_occurs}
-use Rattle.pnml_grammar.proofs.law.one_token.Goals as goal
-
-pub returns : goal.returns
-returns c = one_token_occurs
