@@ -50,6 +50,6 @@ module _ (net : Net) (class : Branch) (found : List Bool) (size : HasSize net.pl
       has_all = λ p below member. decides.0 holds p member;
     },
     λ live. decides.1 (λ p member.
-      let below = has_within net.places class.contains p size.contains member in
-      in_found live p below (live.has_all p below member)),
+        let below = has_within net.places class.contains p size.contains member in
+        in_found live p below (live.has_all p below member)),
   )

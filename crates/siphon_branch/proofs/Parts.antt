@@ -277,18 +277,18 @@ partway_all net class part entries t i limit old met opens h past partway = reco
 pub dead_meets : (net : Net) (class : Branch) (limit : ℕ) (met : List (List Bool)) → IsNonempty net (has class.contains) → (IsLiveClass net (has class.contains) (has class.avoids) → ⊥) → length met ≤ limit → Meets (IsGrownFrom net class.contains class.avoids) limit met met
 dead_meets net class limit met some dead room = record {
   adds = adds_nothing (IsGrownFrom net class.contains class.avoids) met (λ list grown.
-    let U = greatest_there net (λ p. not (has class.avoids p)) in
-    let within = U.1.greatest (has list) grown.siphon (λ p below member. not_from_false (has class.avoids p) (elim (cases_Bool (has class.avoids p)) [
-      | inl avoided ↦ absurd (both_ways (has list p) (grown.belongs.has_none p below avoided) member)
-      | inr out ↦ out
-    ])) in
-    let at = any_from net.places (has class.contains) some in
-    dead record {
-      greatest = U.0;
-      is_greatest = U.1;
-      nonempty = any_at net.places U.0 at.0 at.1 (within at.0 at.1 (grown.belongs.has_all at.0 at.1 at.2));
-      has_all = λ p below member. within p below (grown.belongs.has_all p below member);
-    });
+      let U = greatest_there net (λ p. not (has class.avoids p)) in
+      let within = U.1.greatest (has list) grown.siphon (λ p below member. not_from_false (has class.avoids p) (elim (cases_Bool (has class.avoids p)) [
+        | inl avoided ↦ absurd (both_ways (has list p) (grown.belongs.has_none p below avoided) member)
+        | inr out ↦ out
+      ])) in
+      let at = any_from net.places (has class.contains) some in
+      dead record {
+        greatest = U.0;
+        is_greatest = U.1;
+        nonempty = any_at net.places U.0 at.0 at.1 (within at.0 at.1 (grown.belongs.has_all at.0 at.1 at.2));
+        has_all = λ p below member. within p below (grown.belongs.has_all p below member);
+      });
   room = room;
 }
 

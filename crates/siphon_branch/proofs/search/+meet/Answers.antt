@@ -51,7 +51,7 @@ meet-requires t c =
         (
           subst (λ (s : List Bool). IsNonempty net (has s)) (sym c.insert.ensures)
               (part_some net c.args.class.now entries c.in-Some.t i c.args.limit c.requires.class c.in-Some.ensures c.inputs-inputs.ensures.lists within c.loop-entry.part c.args.met.now c.loop-entry.met c.loop-entry.invariant),
-        (adds_sizes (MetBefore net c.args.class.now entries i) net.places c.args.met.now c.loop-entry.met c.loop-entry.invariant.meets.adds (λ list grown. grown.0.size) c.requires.sizes, c.loop-entry.invariant.meets.room),
+          (adds_sizes (MetBefore net c.args.class.now entries i) net.places c.args.met.now c.loop-entry.met c.loop-entry.invariant.meets.adds (λ list grown. grown.0.size) c.requires.sizes, c.loop-entry.invariant.meets.room),
         ),
       ),
     )
