@@ -1,13 +1,11 @@
 -- The canonical text spells its document: its tokens occur in it, each with legal texts, and they are read as
 -- the document.
 use Rattle.std.proofs.Common.{sym, ap, subst, length}
-use Rattle.net_values.specs.declared.document.Document.{Document}
 use Rattle.pnml_grammar.specs.Tokens.{first_offset}
-use Rattle.pnml_grammar.specs.Valued.{Valued}
 use Rattle.pnml_grammar.specs.Documents.{DocBytes}
 use Rattle.pnml_grammar.specs.Canon.{canon}
 use Rattle.pnml_grammar.specs.CanonicalTexts.{SpellTheirDocuments, TellDocumentsApart}
-use Rattle.pnml_grammar.proofs.FaultLaws.{tokens_are_legal}
+use Rattle.pnml_grammar.proofs.ReasonLaws.{tokens_are_legal}
 use Rattle.pnml_grammar.proofs.DocumentLaws.{read_spells, spells_one}
 use Rattle.pnml_grammar.proofs.CanonTokens.{canon_tokens}
 use Rattle.pnml_grammar.proofs.CanonSpelling.{canon_spelled}

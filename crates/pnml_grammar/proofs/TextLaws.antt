@@ -1,7 +1,7 @@
 -- UTF-8 and legal characters. A text may be cut at an ASCII byte, so the parts of a spelling between its
 -- marks are text.
 use Rattle.std.proofs.Common.{◌≡◌, ℕ, ◌<◌, true, List, [], ◌∷◌, ◌++◌, Some, refl, sym, ap, subst, ◌∙◌, arith, length, get_or, length-append}
-use Rattle.std.specs.Prelude.{chars, IsUtf8}
+use Rattle.std.specs.Prelude.{Bool, chars, IsTrue, IsUtf8, ◌↔◌}
 use Rattle.std.specs.List.{AllByRecursion, list_all}
 use Rattle.std.specs.Str.{is_utf8, all_scalars}
 use Rattle.std.proofs.Math.Utf8.{scalar}
@@ -40,6 +40,13 @@ is_legal_found bytes e =
     let p = and_parts (is_utf8 bytes) (list_all is_legal_character (chars bytes)) e in
     (chars bytes, each_found IsLegalCharacter is_legal_character legal_found (chars bytes) p.1, encodes-chars bytes (IsUtf8-from_is_utf8 bytes p.0))
 
+-- the test tells whether a text is legal
+pub legal_text_decided : (bytes : List ℕ) (b : Bool) → IsUtf8 bytes → b ≡ list_all is_legal_character (chars bytes) → IsTrue b ↔ IsLegalText bytes
+unfolding is_legal
+legal_text_decided bytes b text e =
+    let same : is_legal bytes ≡ b = rw (is_utf8-from_IsUtf8 bytes text) (sym e) in
+    (λ holds. is_legal_found bytes (same ∙ holds), λ legal. sym same ∙ is_legal_is bytes legal)
+
 pub text_again : (bytes : List ℕ) → IsUtf8 bytes → text_of bytes ≡ Some bytes
 unfolding text_of
 text_again bytes h = rw (is_utf8-from_IsUtf8 bytes h) refl
@@ -75,6 +82,14 @@ pub space_begins : (xs ys : List ℕ) → Each is_space xs → BeginsAscii ys �
 space_begins [] ys each ascii = ascii
 space_begins (x ∷ xs) ys each ascii = space_is_ascii x each.0
 
-pub utf8_after_space : (xs ys : List ℕ) → Each is_space xs → IsUtf8 (xs ++ ys) → IsUtf8 ys
-utf8_after_space [] ys each h = h
-utf8_after_space (x ∷ xs) ys each h = utf8_after_space xs ys each.1 (utf8_past x (xs ++ ys) (space_is_ascii x each.0) h)
+-- texts with the property may be cut at an ASCII byte: before it, and after it
+pub record IsCutAtAscii (Property : List ℕ → Type 0) : Type 0 where
+  pub before : (xs rest : List ℕ) → BeginsAscii rest → Property (xs ++ rest) → Property xs × Property rest
+  pub past : (b : ℕ) (bs : List ℕ) → b < 128 → Property (b ∷ bs) → Property bs
+
+pub cut_after_space : (Property : List ℕ → Type 0) → IsCutAtAscii Property → (xs ys : List ℕ) → Each is_space xs → Property (xs ++ ys) → Property ys
+cut_after_space Property cut [] ys each h = h
+cut_after_space Property cut (x ∷ xs) ys each h = cut_after_space Property cut xs ys each.1 (cut.past x (xs ++ ys) (space_is_ascii x each.0) h)
+
+pub utf8_is_cut : IsCutAtAscii IsUtf8
+utf8_is_cut = record { before = utf8_split; past = utf8_past }

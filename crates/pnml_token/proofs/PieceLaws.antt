@@ -12,11 +12,11 @@ use Rattle.pnml_grammar.specs.Runs.{◌>>=◌, passed, beyond, past}
 use Rattle.pnml_grammar.specs.Resolving.{referenced, is_reference_byte, with_front, resolved, resolved_after, literal}
 use Rattle.pnml_grammar.proofs.RunLaws.{bind_some, some_pair_is, past_found, Stops, passed-beyond, passed_each, after_stops}
 use Rattle.pnml_grammar.proofs.ValueLaws.{reference_passed}
-use Rattle.pnml_token.specs.declared.class.Class.TheVariants.{Plain, Line}
+use Rattle.pnml_token.specs.declared.runs.ByteClass.TheVariants.{Plain, Line}
 use Rattle.pnml_token.specs.declared.miss.Miss.{Miss}
 use Rattle.pnml_token.specs.declared.miss.Miss.TheVariants.{NoToken, NoMemory}
-use Rattle.pnml_token.specs.Classes.{in_class}
-use Rattle.pnml_token.specs.declared.piece.Piece.{Piece}
+use Rattle.pnml_token.specs.ByteClasses.{in_class}
+use Rattle.pnml_token.specs.declared.values.Piece.{Piece}
 use Rattle.pnml_token.specs.Gives.{Misses, Gives}
 use Rattle.std.proofs.Common.{Bor, Result, Ok, Err}
 use Rattle.std.specs.Prelude.{IfOk, IfErr}
@@ -196,6 +196,9 @@ semicolon_none body xs e = rw e refl
 semicolon_some : (body xs : List ℕ) (c : ℕ) → referenced body ≡ Some c → resolved_after body (59 ∷ xs) ≡ with_front (encode_utf8 c) (resolved xs)
 semicolon_some body xs c e = rw e refl
 
+never : {A : Type 0} (x : A) → Some x ≡ None → ⊥
+never x e = cc
+
 bind_none : {A B : Type 0} (r : Option A) (f : A → Option B) → (r >>= f) ≡ None → (r ≡ None) ⊎ ((x : A) × (r ≡ Some x) × (f x ≡ None))
 bind_none None f e = inl refl
 bind_none (Some x) f e = inr (x, refl, e)
@@ -211,7 +214,7 @@ ended_none spaces body (b ∷ bs) stops e =
             | inl none ↦
                 ap (λ (x : ℕ). resolved_after body (literal spaces (x ∷ bs))) (eqb-true b 59 semicolon) ∙ ap (resolved_after body) (semicolon_literal spaces bs)
                 ∙ semicolon_none body (literal spaces bs) none
-            | inr some ↦ let h = some.2 in absurd cc
+            | inr some ↦ absurd (never (encode_utf8 some.0, bs) some.2)
           ]
       | inr other ↦ no_end spaces body b bs stops other
     ]

@@ -2,19 +2,21 @@
 -- place that avoids those before it are the grown siphons with that lowest place.
 use Rattle.std.proofs.Common.{◌≡◌, ◌↔◌, ◌⊎◌, refl, sym, ap, ◌∙◌, subst, ℕ, ◌+◌, ◌<◌, ◌≤◌, ◌||◌, List, Bool, true, false, IsTrue, eqb, ltb, length, set, replicate, length-set, add-one, inl, inr, arith}
 use Rattle.std.proofs.Math.Bool.{or-false}
-use Rattle.std.proofs.lemmas.Bool.{cases_lt, cases_eq, eq-eqb, eqb-true, lt-ltb, ltb-true, le-ltb}
+use Rattle.std.proofs.lemmas.Bool.{or_cases, or_left, or_right, cases_lt, cases_eq, eq-eqb, eqb-true, lt-ltb, ltb-true, le-ltb, both_ways, cases_Bool}
 use Rattle.std.proofs.lemmas.List.{get_or_past, get_or-replicate, length-replicate}
 use Rattle.net_values.specs.Net.{Net}
 use Rattle.net_values.specs.PlaceSets.{has}
-use Rattle.closed_sets.specs.ClosedSets.{any_below}
+use Rattle.closed_sets.specs.ClosedSets.{any_below, IsNonempty}
 use Rattle.closed_sets.specs.Growth.{IsFirst, only_place, GrowsWhole}
-use Rattle.closed_sets.proofs.Below.{cases_bool, apart, any_at, none_from, none_at}
+use Rattle.closed_sets.proofs.Below.{same_bools, any_at, none_from, none_at}
+use Rattle.closed_sets.proofs.Firsts.{first_same}
 use Rattle.siphon_branch.specs.declared.branch.Branch.{Branch}
 use Rattle.siphon_branch.specs.Classes.{HasSize}
-use Rattle.siphon_branch.specs.Met.{Meets, Overruns, IsGrownFrom, IsGrownSet}
-use Rattle.siphon_branch.proofs.Growths.{either, or_left, or_right, same_growth, first_same}
+use Rattle.siphon_branch.specs.Limits.{IsGrownSet}
+use Rattle.siphon_branch.specs.Met.{Meets, Overruns, IsGrownFrom}
+use Rattle.siphon_branch.proofs.Growths.{same_growth}
 use Rattle.siphon_branch.proofs.Lists.{adds_on, some_on, adds_same, some_within, adds_nothing}
-use Rattle.siphon_branch.proofs.Parts.{placed, taken_back, same_bools}
+use Rattle.siphon_branch.proofs.Parts.{placed, taken_back}
 
 -- the grown siphons met before place n
 abbrev pub FoundBefore : Net → ℕ → List Bool → Type 0
@@ -40,7 +42,7 @@ begun_none net limit met room = record {
   size = length-replicate net.places false;
   avoids = λ q. zeros_have net.places q ∙ sym (le-ltb q 0 (omega arith));
   meets = record {
-    adds = adds_nothing (FoundBefore net 0) met (λ list found. apart _ found.1 refl);
+    adds = adds_nothing (FoundBefore net 0) met (λ list found. both_ways _ refl found.1);
     room = room;
   };
 }
@@ -51,7 +53,7 @@ below_more n f = subst (λ (m : ℕ). any_below m f ≡ (f n || any_below n f)) 
 lt_more : (q p : ℕ) → (eqb q p || ltb q p) ≡ ltb q (p + 1)
 lt_more q p =
     same_bools (eqb q p || ltb q p) (ltb q (p + 1))
-    (λ some. elim (either (eqb q p) (ltb q p) some) [
+    (λ some. elim (or_cases (eqb q p) (ltb q p) some) [
       | inl same ↦ let e = eqb-true q p same in lt-ltb q (p + 1) (omega arith)
       | inr less ↦ let l = ltb-true q p less in lt-ltb q (p + 1) (omega arith)
     ])
@@ -77,6 +79,9 @@ module _ (net : Net) (part : Branch) (p limit : ℕ) (old met : List (List Bool)
 
   contained : (q : ℕ) → has (set part.contains p true) q ≡ only_place p q
   contained q = placed part.contains p room q ∙ ap (λ b. eqb q p || b) (zeros q) ∙ or-false (eqb q p)
+
+  pub begun_some : IsNonempty net (has (set part.contains p true))
+  begun_some = any_at net.places (has (set part.contains p true)) p below (contained p ∙ eq-eqb p p refl)
 
   root_to : (list : List Bool) → Part list → IsGrownSet net list × IsTrue (has list p) × (any_below p (has list) ≡ false)
   root_to list grown =
@@ -110,7 +115,7 @@ module _ (net : Net) (part : Branch) (p limit : ℕ) (old met : List (List Bool)
       }
 
   disjoint : (list : List Bool) → FoundBefore net p list → Part list → ⊥
-  disjoint list before grown = apart _ before.1 (root_to list grown).2
+  disjoint list before grown = both_ways _ (root_to list grown).2 before.1
 
   found_more : (list : List Bool) → (FoundBefore net p list ⊎ Part list) ↔ FoundBefore net (p + 1) list
   found_more list = (
@@ -118,11 +123,11 @@ module _ (net : Net) (part : Branch) (p limit : ℕ) (old met : List (List Bool)
       | inl before ↦ (before.0, below_more p (has list) ∙ or_right (has list p) (any_below p (has list)) before.1)
       | inr grown ↦ let all = root_to list grown in (all.0, below_more p (has list) ∙ or_left (has list p) (any_below p (has list)) all.1)
     ],
-    λ after. elim (cases_bool (any_below p (has list))) [
+    λ after. elim (cases_Bool (any_below p (has list))) [
       | inl before ↦ inl (after.0, before)
-      | inr none ↦ inr (root_from list after.0 (elim (either (has list p) (any_below p (has list)) (sym (below_more p (has list)) ∙ after.1)) [
+      | inr none ↦ inr (root_from list after.0 (elim (or_cases (has list p) (any_below p (has list)) (sym (below_more p (has list)) ∙ after.1)) [
         | inl member ↦ member
-        | inr some ↦ absurd (apart _ some none)
+        | inr some ↦ absurd (both_ways _ none some)
       ]) none)
     ],
   )
