@@ -10,7 +10,7 @@ use Rattle.pnml_grammar.specs.Trees.{Node, Nodes, none, ◌and◌, node_tokens, 
 use Rattle.pnml_grammar.specs.Contents.{◌then◌, node_content, nodes_content}
 use Rattle.pnml_grammar.specs.Counts.{Counts, ◌plus◌, tag_counts, node_counts, nodes_counts}
 use Rattle.pnml_grammar.specs.Documents.{IsChild, EachChild}
-use Rattle.pnml_grammar.specs.OpenElements.{State, Opened, Spot, opened_tokens, frame_of, frames_around, opened_counts, state_after, state_of}
+use Rattle.pnml_grammar.specs.OpenElements.{Opened, Spot, opened_tokens, frame_of, frames_around, opened_counts, state_after, state_of}
 use Rattle.pnml_grammar.proofs.ContentLaws.{then_nothing, then_assoc, plus_nothing, nothing_plus, plus_assoc}
 use Rattle.pnml_grammar.proofs.ReadingTrees.{with_more}
 

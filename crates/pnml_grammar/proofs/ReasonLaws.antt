@@ -62,7 +62,7 @@ bad_token bytes k list state token e reason reaches leads there applies =
       list = list;
       reaches = reaches;
       spot = spot.0;
-      beyond = spot.1;
+      after = spot.1;
       token = token;
       end = e;
       occurs = there;
@@ -108,7 +108,7 @@ bad_ends bytes k list reason reaches begins bad more =
     let same = one_list bytes bad.list list (first_offset bytes) k bad.reaches reaches in
     let reads = begins_reached list begins in
     let spot = reached_spot list reads.0 reads.1 in
-    let states = one_state_after bad.spot spot.0 list (sym same ∙ bad.beyond) spot.1 ∙ spot.2 in
+    let states = one_state_after bad.spot spot.0 list (sym same ∙ bad.after) spot.1 ∙ spot.2 in
     let applies = ap (λ (l : List Token). reason_after l reads.0 bad.token) (sym same) ∙ ap (λ (s : State). reason_after bad.list s bad.token) (sym states) ∙ bad.applies in
     nothing_reached (list ++ bad.token ∷ []) (goes_nowhere list reads.0 bad.token reason reads.1 applies) more
 

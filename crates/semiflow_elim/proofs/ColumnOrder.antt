@@ -1,7 +1,7 @@
 -- The columns of a matrix may occur in any order: the sums of a vector at a column depend on the column's
 -- entries only, so matrices with the same columns have the same semiflows over all columns, and the same
 -- of minimal support.
-use Rattle.std.proofs.Common.{◌≡◌, refl, sym, ap, ◌∙◌, ℕ, zero, suc, ◌*◌, ◌<◌, List, slice_index, arith}
+use Rattle.std.proofs.Common.{◌≡◌, sym, ap, ◌∙◌, ℕ, ◌*◌, ◌<◌, List, slice_index, arith}
 use Rattle.std.specs.Cmp.Lexicographic.{slice_cmp}
 use Rattle.std.specs.Ordering.{nat_cmp}
 use Rattle.std.proofs.lemmas.Cmp.{nat_cmp_total, lists_total}

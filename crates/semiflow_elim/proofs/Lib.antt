@@ -12,3 +12,4 @@ pub mod Listed
 pub mod Generation
 pub mod Offers
 pub mod ColumnOrder
+pub mod OneFailure
