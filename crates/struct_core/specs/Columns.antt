@@ -2,7 +2,7 @@
 use Rattle.std.specs.Prelude.{◌≡◌, ℕ, List, All, length}
 use Rattle.net_values.specs.FlatNets.{NetLists, net_of}
 use Rattle.incidence.specs.Matrix.{Matrix}
-use Rattle.report.specs.Nodes.{place_id, transition_id}
+use Rattle.net_values.specs.Nodes.{place_id, transition_id}
 use Rattle.struct_core.specs.declared.semiflows.Columns.{Columns}
 use Rattle.struct_core.specs.declared.semiflows.Columns.TheVariants.{Transitions, Places}
 

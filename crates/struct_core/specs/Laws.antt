@@ -9,7 +9,7 @@ use Rattle.incidence.specs.Semiflow.{all_columns, IsSemiflow}
 use Rattle.pnml_grammar.specs.Canon.{canon}
 use Rattle.pnml_grammar.specs.Valued.{Valued}
 use Rattle.page_flatten.specs.Rules.{BreaksNoRule}
-use Rattle.report.specs.Nodes.{place_id, transition_id}
+use Rattle.net_values.specs.Nodes.{place_id, transition_id}
 use Rattle.report.specs.Texts.{semiflows_text, sets_text}
 use Rattle.struct_core.specs.declared.order.Task.TheVariants as tasks
 use Rattle.struct_core.specs.declared.order.Budgets.{Budgets}

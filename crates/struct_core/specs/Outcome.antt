@@ -7,7 +7,7 @@ use Rattle.closed_sets.specs.Commoner.{IsOrdinary}
 use Rattle.net_class.specs.declared.membership.Class.{Class}
 use Rattle.net_class.specs.Classes.{IsStateMachine, IsMarkedGraph, IsFreeChoice}
 use Rattle.incidence.specs.Matrix.{incidence_of, transposed}
-use Rattle.report.specs.Nodes.{place_id, transition_id}
+use Rattle.net_values.specs.Nodes.{place_id, transition_id}
 use Rattle.report.specs.Texts.{check_text, class_text}
 use Rattle.pnml_grammar.specs.Canon.{canon}
 use Rattle.pnml_grammar.specs.Documents.{DocBytes}

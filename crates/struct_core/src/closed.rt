@@ -1,7 +1,7 @@
 ghost use Rattle.std.specs.Prelude.{◌≡◌, codes, IfOk, IfErr};
 ghost use Rattle.net_values.specs.FlatNets.{net_of};
 ghost use Rattle.net_values.specs.Net.{reversed};
-ghost use Rattle.report.specs.Nodes.{place_id};
+ghost use Rattle.net_values.specs.Nodes.{place_id};
 ghost use Rattle.struct_core.specs.Answers.{FailsWith};
 ghost use Rattle.struct_core.specs.Enumerations.{SetOutcome};
 

@@ -3,7 +3,7 @@ ghost use Rattle.net_values.specs.FlatNets.{net_of};
 ghost use Rattle.incidence.specs.Matrix.{incidence_of, transposed};
 ghost use Rattle.incidence.specs.Tables.{matrix_of};
 ghost use Rattle.semiflow_elim.specs.FirstFail.{IsExplained};
-ghost use Rattle.report.specs.Nodes.{place_id, transition_id};
+ghost use Rattle.net_values.specs.Nodes.{place_id, transition_id};
 ghost use Rattle.report.specs.Texts.{semiflows_text};
 ghost use Rattle.report.specs.declared.refusal.Refusal.{Refusal as Refusing};
 ghost use Rattle.struct_core.specs.Answers.{FailsWith};
