@@ -37,7 +37,7 @@ pub kept_transitions : (old new : NetLists) → KeepsNodes old new → length ne
 kept_transitions old new kept =
     sym (length-map new.transitions (λ transition. transition.id)) ∙ ap length kept.transitions ∙ length-map old.transitions (λ transition. transition.id)
 
-either_order : (a b : Bool) (n : ℕ) → (if a && b then n else 0) ≡ (if b && a then n else 0)
+pub either_order : (a b : Bool) (n : ℕ) → (if a && b then n else 0) ≡ (if b && a then n else 0)
 either_order true true n = refl
 either_order true false n = refl
 either_order false true n = refl

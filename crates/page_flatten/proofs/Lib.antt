@@ -11,3 +11,6 @@ pub mod LinkLaws
 pub mod ArcLaws
 pub mod WholeLaws
 pub mod OneAnswer
+pub mod Decisions
+pub mod SomeNet
+pub mod SomeAnswer

@@ -62,7 +62,7 @@ distinct_only id zero zero one at also = refl
 distinct_only id zero (suc n) one at also = absurd cc
 distinct_only id (suc m) n one at also = absurd cc
 
-distinct_push : (ids : List (List ℕ)) (id : List ℕ) → AreDistinct ids → ((n : ℕ) → slice_get ids n ≡ Some id → ⊥) → AreDistinct (ids ++ id ∷ [])
+pub distinct_push : (ids : List (List ℕ)) (id : List ℕ) → AreDistinct ids → ((n : ℕ) → slice_get ids n ≡ Some id → ⊥) → AreDistinct (ids ++ id ∷ [])
 distinct_push ids id distinct fresh m n one at also =
     elim (from_push ids id m one at) [
       | inl early ↦ elim (from_push ids id n one also) [

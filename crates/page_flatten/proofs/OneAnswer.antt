@@ -127,7 +127,7 @@ module _ (list : List Element) (distinct : AreDistinct (map (λ (e : Element). e
       ap (λ (e : Element). e.role) (some_is (sym at ∙ subst (λ k. slice_get list k ≡ Some (element id b)) (sym same) also))
 
   -- so it resolves to one end
-  one_end_of : (id : List ℕ) (a b : End) → Resolves list id a → Resolves list id b → a ≡ b
+  pub one_end_of : (id : List ℕ) (a b : End) → Resolves list id a → Resolves list id b → a ≡ b
   one_end_of id a b (to_itself m _ _ at) (to_itself n _ _ also) = let e : Real a ≡ Real b = one_role m n id (Real a) (Real b) at also in cc
   one_end_of id a b (to_itself m _ _ at) (to_what_it_names n _ kind target _ also rest) = let e : Real a ≡ Reference kind target = one_role m n id (Real a) (Reference kind target) at also in absurd cc
   one_end_of id a b (to_what_it_names m _ kind target _ at rest) (to_itself n _ _ also) = let e : Reference kind target ≡ Real b = one_role m n id (Reference kind target) (Real b) at also in absurd cc

@@ -46,7 +46,7 @@ kind_answered net distinct known (RefCycle id) h = absurd h
 kind_answered net distinct known (ArcEnds id) h = absurd h
 
 -- a place or a transition among the elements of the items has a number below their counts
-within_more : (a b m n : ℕ) (end : End) → a ≤ b → m ≤ n → IsEndWithin a m end → IsEndWithin b n end
+pub within_more : (a b m n : ℕ) (end : End) → a ≤ b → m ≤ n → IsEndWithin a m end → IsEndWithin b n end
 within_more a b m n (AtPlace p) places transitions h = omega arith
 within_more a b m n (AtTransition t) places transitions h = omega arith
 
@@ -81,7 +81,7 @@ counted (RefTransition node ∷ items) p t (suc m) id end at = counted items p t
 counted (Arc arc ∷ items) p t zero id end at = absurd (no_real arc.id id end at)
 counted (Arc arc ∷ items) p t (suc m) id end at = counted items p t m id end at
 
-counted_in : (net : NetTree) (m : ℕ) (id : List ℕ) (end : End) → slice_get (elements net) m ≡ Some record { id = id; role = Real end } → IsCounted net.items 0 0 end
+pub counted_in : (net : NetTree) (m : ℕ) (id : List ℕ) (end : End) → slice_get (elements net) m ≡ Some record { id = id; role = Real end } → IsCounted net.items 0 0 end
 counted_in net zero id end at = absurd (no_real net.id id end at)
 counted_in net (suc m) id end at = counted net.items 0 0 m id end at
 

@@ -1,5 +1,5 @@
--- What the definitions determine: the first broken rule, and the flat net.
-use Rattle.std.specs.Prelude.{◌≡◌, ℕ}
+-- What the definitions determine: each document has a first broken rule or a flat net, and one of them.
+use Rattle.std.specs.Prelude.{◌≡◌, ◌⊎◌, ℕ}
 use Rattle.net_values.specs.declared.document.Document.{Document}
 use Rattle.net_values.specs.FlatNets.{NetLists, net_of, transition_ids}
 use Rattle.page_flatten.specs.declared.fault.FlatFault.{FlatFault}
@@ -28,3 +28,12 @@ abbrev pub HasOneFlatNet : Type 0
 HasOneFlatNet =
     (document : Document) (one other : NetLists) → BreaksNoRule document → Flat document one → Flat document other
     → IsSameNet one other
+
+-- the document represents a flat net
+abbrev pub HasFlatNet : Document → Type 0
+HasFlatNet document = BreaksNoRule document × (net : NetLists) × Flat document net
+
+-- a document represents a flat net, or has a first broken rule
+abbrev pub HasNetOrFault : Type 0
+HasNetOrFault =
+    (document : Document) → HasFlatNet document ⊎ ((fault : FlatFault) × FirstBroken document fault)

@@ -1,4 +1,4 @@
-ghost use Rattle.page_flatten.specs.Laws.{HasOneFault, BreaksWhereFaulty, HasOneFlatNet};
+ghost use Rattle.page_flatten.specs.Laws.{HasOneFault, BreaksWhereFaulty, HasOneFlatNet, HasNetOrFault};
 
 /// A document has at most one first broken rule, named with one choice of ids.
 pub fn one_first_broken_rule()
@@ -13,4 +13,9 @@ pub fn no_fault_where_no_rule_is_broken()
 /// A document that breaks no rule has at most one flat net.
 pub fn one_flat_net()
     ensures { HasOneFlatNet }
+{}
+
+/// A document breaks no rule and has a flat net, or has a first broken rule.
+pub fn a_flat_net_or_a_first_broken_rule()
+    ensures { HasNetOrFault }
 {}

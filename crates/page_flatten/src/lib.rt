@@ -17,4 +17,7 @@ mod tests;
 
 pub use fault::FlatFault;
 pub use flattening::flatten;
-pub use laws::{no_fault_where_no_rule_is_broken, one_first_broken_rule, one_flat_net};
+pub use laws::{
+    a_flat_net_or_a_first_broken_rule, no_fault_where_no_rule_is_broken, one_first_broken_rule,
+    one_flat_net,
+};

@@ -1,4 +1,5 @@
 -- The definitions that contracts over sources and sinks cite.
 pub mod Causes
 pub mod Streams
+pub mod Adapters
 pub mod Memory

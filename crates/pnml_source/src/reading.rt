@@ -1,4 +1,4 @@
-ghost use Rattle.std.specs.Prelude.{◌≡◌, true, false, ◌+◌, ◌-◌, ◌^◌, ◌≤◌, ◌<◌, length, vec_len, IfOk, OnOk, IfErr};
+ghost use Rattle.std.specs.Prelude.{◌≡◌, true, false, ◌+◌, ◌-◌, ◌^◌, ◌≤◌, ◌<◌, length, vec_len, IfOk, OnOk, IfErr, MatchResult};
 ghost use Rattle.std.specs.Io.KnownBytes.{IsAtEnd};
 ghost use Rattle.pnml_source.specs.Causes.{Rose};
 ghost use Rattle.pnml_source.specs.Streams.{IsWholeInput, MovesBytes, TakesAtMost, TakesExactly};
@@ -60,6 +60,11 @@ pub fn read_all<S: Source>(
     ensures too_long_kept { IfErr result (λ e. e ≡ TooLong →
         S.faults source.new ≡ S.faults source.old) }
 
+    // Unless the source failed, no more than that byte past the limit was taken.
+    ensures taken { MatchResult result
+        (λ _. TakesAtMost (S.left source.old) (S.left source.new) (limit + 1))
+        (λ e. (e ≡ ReadFault → ⊥) → TakesAtMost (S.left source.old) (S.left source.new) (limit + 1)) }
+
     // Out of memory represents no other answer.
     ensures no_memory { IfErr result (λ e. e ≡ NoMemory →
         TakesAtMost (S.left source.old) (S.left source.new) limit) }
@@ -107,6 +112,8 @@ fn read_piece<S: Source>(
         TakesExactly (S.left source.old) (S.left source.new) (limit + 1 - vec_len bytes.old)) }
     ensures no_memory { IfErr result (λ e. e ≡ NoMemory →
         TakesAtMost (S.left source.old) (S.left source.new) (limit - vec_len bytes.old)) }
+    ensures taken { IfErr result (λ e. (e ≡ ReadFault → ⊥) →
+        TakesAtMost (S.left source.old) (S.left source.new) (limit + 1 - vec_len bytes.old)) }
     ensures not_read { IfErr result (λ e. (e ≡ ReadFault → ⊥) →
         S.faults source.new ≡ S.faults source.old) }
 {

@@ -1,4 +1,9 @@
-ghost use Rattle.std.specs.Prelude.{◌≡◌};
+ghost use Rattle.std.specs.Prelude.{◌≡◌, ◌≤◌, ◌-◌, ◌^◌};
+ghost use Rattle.std.specs.Io.{ReadsAtMost};
+ghost use Rattle.std.specs.Io.KnownBytes.{ReadConsumes};
+ghost use Rattle.pnml_source.specs.Causes.{HasCause};
+ghost use Rattle.pnml_source.specs.Streams.{GivesNext};
+ghost use Rattle.pnml_source.specs.Adapters.{reader_of};
 
 use crate::failed::Failed;
 use crate::source::Source;
@@ -26,7 +31,16 @@ impl<R: Read> Source for StdSource<R> {
 
     ghost faults = { λ s. s.faults };
 
-    fn read(&mut self, buf: &mut [u8]) -> Result<usize, Failed> {
+    fn read(&mut self, buf: &mut [u8]) -> Result<usize, Failed>
+        ensures bound { ReadsAtMost result buf.new }
+        ensures bytes { GivesNext (⟦<StdSource<R> as Source>⟧.left self.old) (⟦<StdSource<R> as Source>⟧.left self.new) result buf.new }
+        ensures cause { HasCause (⟦<StdSource<R> as Source>⟧.faults self.old) (⟦<StdSource<R> as Source>⟧.faults self.new) result }
+        ensures last { ⟦<StdSource<R> as Source>⟧.faults self.new ≤ 2 ^ 64 - 1 }
+
+        // A failed read took nothing from std's reader, where that tells its bytes.
+        ensures through { ReadConsumes
+            (R.remaining (reader_of self.old)) (R.remaining (reader_of self.new)) result buf.new }
+    {
         let faults = self.faults;
         match self.inner.read(buf) {
             Ok(count) => Ok(count),

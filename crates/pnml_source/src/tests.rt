@@ -1,173 +1,211 @@
 use super::*;
-use net_values::NoMemory;
-use std::alloc::{AllocError, Global};
 use std::io::{self, ErrorKind, Read, Write};
-use std::process::Abort;
 use std::test::Fail;
 
-// A whole read of a source in memory, and its answer.
-#[derive(Drop)]
-struct ReadCase {
-    bytes: &'static [u8],
-    pieces: &'static [usize],
-    failing: &'static [u64],
-    limit: u32,
-    answer: Result<&'static [u8], ReadAllFault>,
-}
+/// The answer of a whole read.
+type Whole = Result<&'static [u8], ReadAllFault>;
 
-fn read_case(
-    bytes: &'static [u8],
-    pieces: &'static [usize],
-    failing: &'static [u64],
-    limit: u32,
-    answer: Result<&'static [u8], ReadAllFault>,
-) -> ReadCase {
-    ReadCase {
-        bytes,
-        pieces,
-        failing,
-        limit,
-        answer,
-    }
-}
+/// A source in memory: its bytes, how its calls are cut and which of them fail; a limit, and the answer of a
+/// whole read with it.
+type SourceRow = (&'static [u8], &'static [usize], &'static [u64], u32, Whole);
 
-fn check_read(rt: &impl Abort, alloc: Global, row: &ReadCase) -> Result<(), AllocError> {
-    let mut source = MemorySource::new(
-        Vec::from_slice(alloc, row.bytes)?,
-        Vec::from_slice(alloc, row.pieces)?,
-        Vec::from_slice(alloc, row.failing)?,
-    );
-    match (read_all(alloc, &mut source, row.limit as usize), row.answer) {
-        (Ok(bytes), Ok(wanted)) => assert_eq!(rt; bytes.as_slice(), wanted),
-        (Err(fault), Err(wanted)) => assert_eq!(rt; fault, wanted),
-        _ => panic!(rt; "another answer"),
+const SOURCES: [SourceRow; 11] = [
+    (b"", &[], &[], 0, Ok(b"")),
+    (b"a", &[], &[], 0, Err(ReadAllFault::TooLong)),
+    (b"abc", &[], &[], 9, Ok(b"abc")),
+    (b"abc", &[], &[], 3, Ok(b"abc")),
+    (b"abc", &[], &[], 2, Err(ReadAllFault::TooLong)),
+    (b"abcde", &[0], &[6], 5, Ok(b"abcde")),
+    (b"abcde", &[2, 1], &[5], 5, Ok(b"abcde")),
+    (b"abcde", &[2, 1], &[3], 5, Err(ReadAllFault::ReadFault)),
+    (b"abcde", &[2, 1], &[3], 4, Err(ReadAllFault::TooLong)),
+    (b"abcde", &[], &[7, 0], 5, Err(ReadAllFault::ReadFault)),
+    (b"ab", &[2], &[1], 2, Err(ReadAllFault::ReadFault)),
+];
+
+#[test]
+fn sources_in_memory_cut_and_fail_as_told(rt: HostRuntime) -> Result<(), Fail> {
+    let alloc = rt.alloc();
+    for (bytes, pieces, failing, limit, wanted) in &SOURCES {
+        let mut source = MemorySource::new(
+            Vec::from_slice(alloc, *bytes)?,
+            Vec::from_slice(alloc, *pieces)?,
+            Vec::from_slice(alloc, *failing)?,
+        );
+        let answer = read_all(alloc, &mut source, *limit as usize);
+        assert_eq!(rt; lent(&answer), *wanted);
     }
     Ok(())
 }
 
-// A whole write to a sink in memory, its answer, and what the sink then holds.
-#[derive(Drop)]
-struct WriteCase {
-    room: usize,
-    pieces: &'static [usize],
-    failing: &'static [u64],
-    bytes: &'static [u8],
-    answer: Result<(), WriteFault>,
-    held: &'static [u8],
-}
-
-fn write_case(
-    room: usize,
-    pieces: &'static [usize],
-    failing: &'static [u64],
-    bytes: &'static [u8],
-    answer: Result<(), WriteFault>,
-    held: &'static [u8],
-) -> WriteCase {
-    WriteCase {
-        room,
-        pieces,
-        failing,
-        bytes,
-        answer,
-        held,
+/// The answer of a whole read with its bytes lent.
+fn lent(answer: &Result<Vec<u8>, ReadAllFault>) -> Result<&[u8], ReadAllFault> {
+    match answer {
+        Ok(bytes) => Ok(bytes.as_slice()),
+        Err(fault) => Err(*fault),
     }
 }
 
-fn check_write(rt: &impl Abort, alloc: Global, row: &WriteCase) -> Result<(), NoMemory> {
-    let mut sink = MemorySink::new(
-        alloc,
-        row.room,
-        Vec::from_slice(alloc, row.pieces)?,
-        Vec::from_slice(alloc, row.failing)?,
-    )?;
-    assert_eq!(rt; write_all(&mut sink, row.bytes), row.answer);
-    assert_eq!(rt; sink.bytes(), row.held);
+/// A sink in memory: its room, how its calls are cut and which of them fail; bytes, the answer of a whole
+/// write of them, and what the sink then holds.
+type SinkRow = (
+    usize,
+    &'static [usize],
+    &'static [u64],
+    &'static [u8],
+    Result<(), WriteFault>,
+    &'static [u8],
+);
+
+const SINKS: [SinkRow; 6] = [
+    (0, &[], &[0], b"", Ok(()), b""),
+    (3, &[], &[], b"abc", Ok(()), b"abc"),
+    (2, &[], &[], b"abc", Err(WriteFault), b"ab"),
+    (9, &[0], &[3], b"abc", Ok(()), b"abc"),
+    (9, &[2, 1], &[2], b"abcde", Err(WriteFault), b"abc"),
+    (9, &[], &[7, 0], b"abc", Err(WriteFault), b""),
+];
+
+#[test]
+fn sinks_in_memory_cut_and_fail_as_told(rt: HostRuntime) -> Result<(), Fail> {
+    let alloc = rt.alloc();
+    for (room, pieces, failing, bytes, wanted, held) in &SINKS {
+        let pieces = Vec::from_slice(alloc, *pieces)?;
+        let failing = Vec::from_slice(alloc, *failing)?;
+        let mut sink = MemorySink::new(alloc, *room, pieces, failing)?;
+        assert_eq!(rt; write_all(&mut sink, *bytes), *wanted);
+        assert_eq!(rt; sink.bytes(), *held);
+    }
     Ok(())
 }
 
-// A reader and writer whose reads and flushes fail.
+/// A reader of std that gives a byte a call, fails at one call, and counts its calls.
 #[derive(Drop)]
-struct Broken;
+struct Reader {
+    left: &'static [u8],
+    failing: Option<u32>,
+    reads: u32,
+}
 
-impl Read for Broken {
-    fn read(&mut self, _buf: &mut [u8]) -> io::Result<usize> {
-        Err(ErrorKind::BrokenPipe.into())
+impl Read for Reader {
+    fn read(&mut self, buf: &mut [u8]) -> io::Result<usize> {
+        let call = self.reads;
+        self.reads = call.saturating_add(1);
+        if self.failing == Some(call) {
+            return Err(ErrorKind::BrokenPipe.into());
+        }
+        let count = buf.len().min(self.left.len()).min(1);
+        let (given, left) = self.left.split_at(count);
+        buf[..count].copy_from_slice(given);
+        self.left = left;
+        Ok(count)
     }
 }
 
-impl Write for Broken {
+/// The read of the bytes `ab` that fails, if one does; a limit, the answer of a whole read with it, and the
+/// number of reads. None is made after one that failed, nor is that one made again.
+const READS: [(Option<u32>, u32, Whole, u32); 6] = [
+    (None, 9, Ok(b"ab"), 3),
+    (None, 1, Err(ReadAllFault::TooLong), 2),
+    (Some(0), 9, Err(ReadAllFault::ReadFault), 1),
+    (Some(1), 9, Err(ReadAllFault::ReadFault), 2),
+    (Some(2), 9, Err(ReadAllFault::ReadFault), 3),
+    (Some(3), 9, Ok(b"ab"), 3),
+];
+
+#[test]
+fn a_failed_read_is_the_last_call(rt: HostRuntime) -> Result<(), Fail> {
+    for (failing, limit, wanted, reads) in &READS {
+        let mut reader = Reader {
+            left: b"ab",
+            failing: *failing,
+            reads: 0,
+        };
+        let mut source = StdSource::new(&mut reader);
+        let answer = read_all(rt.alloc(), &mut source, *limit as usize);
+        assert_eq!(rt; lent(&answer), *wanted);
+        assert_eq!(rt; reader.reads, *reads);
+    }
+    Ok(())
+}
+
+/// A call of a writer, by its number among those of its kind.
+#[derive(Clone, Copy, PartialEq, Eq)]
+enum Call {
+    Write(u32),
+    Flush(u32),
+}
+
+/// A writer of std that takes at most so many bytes a call, fails at one call, and counts its calls.
+#[derive(Drop)]
+struct Writer {
+    most: usize,
+    failing: Option<Call>,
+    held: Vec<u8>,
+    writes: u32,
+    flushes: u32,
+}
+
+impl Write for Writer {
     fn write(&mut self, buf: &[u8]) -> io::Result<usize> {
-        Ok(buf.len())
+        let call = self.writes;
+        self.writes = call.saturating_add(1);
+        if self.failing == Some(Call::Write(call)) {
+            return Err(ErrorKind::BrokenPipe.into());
+        }
+        let count = buf.len().min(self.most);
+        self.held.extend_from_slice(&buf[..count])?;
+        Ok(count)
     }
 
     fn flush(&mut self) -> io::Result<()> {
-        Err(ErrorKind::BrokenPipe.into())
+        let call = self.flushes;
+        self.flushes = call.saturating_add(1);
+        if self.failing == Some(Call::Flush(call)) {
+            return Err(ErrorKind::BrokenPipe.into());
+        }
+        Ok(())
     }
 }
 
-#[test]
-fn devices_in_memory_cut_and_fail_as_told(rt: HostRuntime) -> Result<(), Fail> {
-    let reads = [
-        read_case(b"", &[], &[], 0, Ok(b"")),
-        read_case(b"a", &[], &[], 0, Err(ReadAllFault::TooLong)),
-        read_case(b"abc", &[], &[], 9, Ok(b"abc")),
-        read_case(b"abc", &[], &[], 3, Ok(b"abc")),
-        read_case(b"abc", &[], &[], 2, Err(ReadAllFault::TooLong)),
-        read_case(b"abcde", &[0], &[6], 5, Ok(b"abcde")),
-        read_case(b"abcde", &[2, 1], &[5], 5, Ok(b"abcde")),
-        read_case(b"abcde", &[2, 1], &[3], 5, Err(ReadAllFault::ReadFault)),
-        read_case(b"abcde", &[2, 1], &[3], 4, Err(ReadAllFault::TooLong)),
-        read_case(b"abcde", &[], &[7, 0], 5, Err(ReadAllFault::ReadFault)),
-        read_case(b"ab", &[2], &[1], 2, Err(ReadAllFault::ReadFault)),
-    ];
-    for row in &reads {
-        check_read(&rt, rt.alloc(), row)?;
-    }
-    let writes = [
-        write_case(0, &[], &[0], b"", Ok(()), b""),
-        write_case(3, &[], &[], b"abc", Ok(()), b"abc"),
-        write_case(2, &[], &[], b"abc", Err(WriteFault), b"ab"),
-        write_case(9, &[0], &[3], b"abc", Ok(()), b"abc"),
-        write_case(9, &[2, 1], &[2], b"abcde", Err(WriteFault), b"abc"),
-        write_case(9, &[], &[7, 0], b"abc", Err(WriteFault), b""),
-    ];
-    for row in &writes {
-        check_write(&rt, rt.alloc(), row)?;
-    }
-    Ok(())
-}
+/// How many bytes a write takes at most, and the call that fails, if one does; the answer of a whole write of
+/// `abc`, what the writer then holds, and the numbers of writes and of flushes. Each write that took bytes is
+/// flushed, and no call is made after one that failed, nor is that one made again.
+type WriteRow = (
+    usize,
+    Option<Call>,
+    Result<(), WriteFault>,
+    &'static [u8],
+    u32,
+    u32,
+);
+
+const WRITES: [WriteRow; 9] = [
+    (9, None, Ok(()), b"abc", 1, 1),
+    (2, None, Ok(()), b"abc", 2, 2),
+    (0, None, Err(WriteFault), b"", 1, 0),
+    (1, Some(Call::Write(0)), Err(WriteFault), b"", 1, 0),
+    (1, Some(Call::Write(1)), Err(WriteFault), b"a", 2, 1),
+    (1, Some(Call::Write(3)), Ok(()), b"abc", 3, 3),
+    (1, Some(Call::Flush(0)), Err(WriteFault), b"a", 1, 1),
+    (1, Some(Call::Flush(2)), Err(WriteFault), b"abc", 3, 3),
+    (1, Some(Call::Flush(3)), Ok(()), b"abc", 3, 3),
+];
 
 #[test]
-fn readers_of_std_give_their_bytes_or_a_fault(rt: HostRuntime) -> Result<(), Fail> {
-    let mut whole = StdSource::new(b"abc".as_slice());
-    assert_eq!(rt;
-        read_all(rt.alloc(), &mut whole, 9)?.as_slice(),
-        b"abc".as_slice()
-    );
-    let mut broken = StdSource::new(b"abc".as_slice().chain(Broken));
-    assert!(rt;
-        matches!(
-            read_all(rt.alloc(), &mut broken, 9),
-            Err(ReadAllFault::ReadFault)
-        )
-    );
-    Ok(())
-}
-
-#[test]
-fn writers_of_std_take_all_bytes_or_fault(rt: HostRuntime) -> Result<(), Fail> {
-    let mut held = Vec::new(rt.alloc());
-    write_all(&mut StdSink::new(&mut held), b"abc")?;
-    assert_eq!(rt; held.as_slice(), b"abc".as_slice());
-    let mut room = [0u8; 2];
-    assert_eq!(rt;
-        write_all(&mut StdSink::new(&mut room[..]), b"abc"),
-        Err(WriteFault)
-    );
-    assert_eq!(rt;
-        write_all(&mut StdSink::new(Broken), b"abc"),
-        Err(WriteFault)
-    );
+fn a_failed_write_or_flush_is_the_last_call(rt: HostRuntime) -> Result<(), Fail> {
+    for (most, failing, wanted, held, writes, flushes) in &WRITES {
+        let mut writer = Writer {
+            most: *most,
+            failing: *failing,
+            held: Vec::new(rt.alloc()),
+            writes: 0,
+            flushes: 0,
+        };
+        let answer = write_all(&mut StdSink::new(&mut writer), b"abc");
+        assert_eq!(rt; answer, *wanted);
+        assert_eq!(rt; writer.held.as_slice(), *held);
+        assert_eq!(rt; (writer.writes, writer.flushes), (*writes, *flushes));
+    }
     Ok(())
 }
