@@ -48,10 +48,10 @@ dead_empties net M ordinary some dead =
     )
 
 pub commoner_excludes : (net : Net) → CommonerExcludesDead net
-commoner_excludes net M ordinary some commoner reachable dead =
+commoner_excludes net ordinary some commoner M reachable dead =
     let emptied = dead_empties net M ordinary some dead in
-    let trap = commoner (empty_places M) emptied.0 emptied.1 in
-    let marked = trap_along net trap.0 net.initial M reachable.0 trap.1 trap.3 reachable.1 in
-    let at = pair_from net.places trap.0 M marked in
-    let empty : M at.0 ≡ 0 = eqb-true (M at.0) 0 (trap.2 at.0 at.1 at.2) in
+    let some_trap = commoner (empty_places M) emptied.0 emptied.1 in
+    let marked = trap_along net some_trap.trap net.initial M reachable.0 some_trap.closed some_trap.marked reachable.1 in
+    let at = pair_from net.places some_trap.trap M marked in
+    let empty : M at.0 ≡ 0 = eqb-true (M at.0) 0 (some_trap.within at.0 at.1 at.2) in
     omega (arith, at.3)

@@ -13,9 +13,20 @@ IsMarked net M S = IsTrue (any_below net.places (λ p. S p && nat_lt 0 (M p)))
 abbrev pub IsOrdinary : Net → Type 0
 IsOrdinary net = (p t : ℕ) → p < net.places → t < net.transitions → (net.pre p t ≤ 1) × (net.post p t ≤ 1)
 
+-- the set contains a trap that is marked at the initial marking
+pub record HasMarkedTrap (net : Net) (S : ℕ → Bool) : Type 0 where
+  pub trap : ℕ → Bool
+  pub closed : IsTrap net trap
+  pub within : IsWithin net trap S
+  pub marked : IsMarked net net.initial trap
+
 -- every nonempty siphon contains a trap that is marked at the initial marking
 abbrev pub MeetsCommoner : Net → Type 0
-MeetsCommoner net = (S : ℕ → Bool) → IsSiphon net S → IsNonempty net S → (Q : ℕ → Bool) × IsTrap net Q × IsWithin net Q S × IsMarked net net.initial Q
+MeetsCommoner net = (S : ℕ → Bool) → IsSiphon net S → IsNonempty net S → HasMarkedTrap net S
+
+-- no reachable marking is dead
+abbrev pub IsDeadlockFree : Net → Type 0
+IsDeadlockFree net = (M : ℕ → ℕ) → IsReachable net M → IsDead net M → ⊥
 
 -- a trap that is marked stays marked along any firing list
 abbrev pub TrapsStayMarked : Net → Type 0
@@ -31,4 +42,4 @@ DeadEmptiesASiphon net = (M : ℕ → ℕ) → IsOrdinary net → 0 < net.transi
 
 -- Commoner's condition excludes every dead reachable marking of an ordinary net with a transition
 abbrev pub CommonerExcludesDead : Net → Type 0
-CommonerExcludesDead net = (M : ℕ → ℕ) → IsOrdinary net → 0 < net.transitions → MeetsCommoner net → IsReachable net M → IsDead net M → ⊥
+CommonerExcludesDead net = IsOrdinary net → 0 < net.transitions → MeetsCommoner net → IsDeadlockFree net

@@ -1,6 +1,7 @@
 ghost use Rattle.std.specs.Prelude.{◌↔◌, ◌||◌, ℕ, Bool};
 ghost use Rattle.net_values.specs.Net.{Net, reversed};
 ghost use Rattle.closed_sets.specs.ClosedSets.{IsSiphon, IsTrap};
+ghost use Rattle.closed_sets.specs.MinimalSets.{MinimalSetsCover};
 ghost use Rattle.closed_sets.specs.Commoner.{TrapsStayMarked, DeadEmptiesASiphon, CommonerExcludesDead};
 
 /// The union of two siphons is a siphon, so each set has a greatest siphon in it (Murata 1989).
@@ -11,6 +12,11 @@ pub fn unions_of_siphons_are_siphons()
 /// Traps are the siphons of the net with every arc turned round.
 pub fn traps_are_siphons_reversed()
     ensures { (net : Net) (S : ℕ → Bool) → IsTrap net S ↔ IsSiphon (reversed net) S }
+{}
+
+/// The list of all minimal siphons has one in every nonempty siphon.
+pub fn minimal_siphons_are_in_all()
+    ensures { (net : Net) → MinimalSetsCover net }
 {}
 
 /// A trap that is marked stays marked along any firing list (Murata 1989).

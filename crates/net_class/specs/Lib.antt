@@ -2,3 +2,4 @@
 pub mod Classes
 pub mod Sides
 pub mod Owners
+pub mod Verdicts

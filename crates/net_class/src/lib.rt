@@ -1,5 +1,5 @@
-//! The classes of a net: whether it is ordinary, a state machine, a marked graph and free-choice, each
-//! exactly and without taking memory.
+//! What a net is by its arcs and its siphons: whether it is ordinary, a state machine, a marked graph and
+//! free-choice, each exactly and without taking memory; and whether it meets Commoner's condition.
 #![tactic(auto)]
 
 mod classes;
@@ -11,6 +11,8 @@ mod takers;
 #[cfg(test)]
 mod tests;
 mod transitions;
+mod verdict;
 
 pub use classes::class;
 pub use membership::Class;
+pub use verdict::{Verdict, commoner};

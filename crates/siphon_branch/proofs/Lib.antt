@@ -6,5 +6,4 @@ pub mod Roots
 pub mod Keeping
 pub mod MinimalGrown
 pub mod Sorting
-pub mod Covers
 pub mod LiveClasses

@@ -1,12 +1,13 @@
 -- A set in a siphon grows to a whole siphon in it: while a transition is open it has an input place in the
 -- siphon, and each step leaves one place less outside. A minimal siphon contains what grows from its lowest
 -- place, and so is grown.
-use Rattle.std.proofs.Common.{◌≡◌, refl, sym, ap, subst, ℕ, zero, suc, ◌+◌, ◌<◌, ◌≤◌, ◌==◌, ◌⊎◌, Bool, true, false, IsTrue, ltb, cond, inl, inr, arith}
-use Rattle.std.proofs.lemmas.Bool.{cases_eq, false≢true, eq-eqb, eqb-true, ltb-true}
+use Rattle.std.proofs.Common.{◌≡◌, refl, sym, subst, ℕ, zero, suc, ◌<◌, ◌==◌, ◌⊎◌, Bool, false, IsTrue, ltb, inl, inr, arith}
+use Rattle.std.proofs.lemmas.Bool.{cases_eq, eq-eqb, eqb-true, ltb-true}
 use Rattle.net_values.specs.Net.{Net}
 use Rattle.closed_sets.specs.ClosedSets.{has_input_in, has_output_in, IsSiphon, IsWithin, IsMinimalSiphon}
 use Rattle.closed_sets.specs.Growth.{IsFirst, is_open, is_input_in, with_place, only_place, GrowsWhole, whole, more, IsGrown}
 use Rattle.closed_sets.proofs.Below.{cases_bool, apart, both, both_left, both_right, not_false, any_at, any_from, pair_at, pair_from}
+use Rattle.closed_sets.proofs.Outside.{outside, outside_lt}
 use Rattle.closed_sets.proofs.Passes.{siphon_from_closed}
 use Rattle.siphon_branch.proofs.Growths.{either, or_left, or_right}
 
@@ -23,34 +24,6 @@ first_of (suc n) test =
           | inr other ↦ none k (omega arith)
         ])
       ]
-    ]
-
--- how many numbers below the bound are not in the set
-pub outside : ℕ → (ℕ → Bool) → ℕ
-outside zero A = 0
-outside (suc n) A = cond (A n) 0 1 + outside n A
-
-one_less : (b c : Bool) → (IsTrue b → IsTrue c) → cond {A = ℕ} c 0 1 ≤ cond {A = ℕ} b 0 1
-one_less true true h = omega arith
-one_less true false h = absurd (false≢true (h refl))
-one_less false true h = omega arith
-one_less false false h = omega arith
-
-outside_le : (n : ℕ) (A A' : ℕ → Bool) → ((k : ℕ) → k < n → IsTrue (A k) → IsTrue (A' k)) → outside n A' ≤ outside n A
-unfolding outside
-outside_le zero A A' within = omega arith
-outside_le (suc n) A A' within = omega (arith, one_less (A n) (A' n) (within n (omega arith)), outside_le n A A' (λ k less. within k (omega arith)))
-
-pub outside_lt : (n : ℕ) (A A' : ℕ → Bool) (p : ℕ) → ((k : ℕ) → k < n → IsTrue (A k) → IsTrue (A' k)) → p < n → A p ≡ false → IsTrue (A' p) → outside n A' < outside n A
-unfolding outside
-outside_lt zero A A' p within below out inside = absurd (omega arith)
-outside_lt (suc n) A A' p within below out inside =
-    elim (cases_eq p n) [
-      | inl same ↦
-          let old : cond {A = ℕ} (A n) 0 1 ≡ 1 = ap (λ (b : Bool). cond {A = ℕ} b 0 1) (subst (λ (m : ℕ). A m ≡ false) same out) in
-          let new : cond {A = ℕ} (A' n) 0 1 ≡ 0 = ap (λ (b : Bool). cond {A = ℕ} b 0 1) (subst (λ (m : ℕ). A' m ≡ true) same inside) in
-          omega (arith, outside_le n A A' (λ k less. within k (omega arith)))
-      | inr other ↦ omega (arith, one_less (A n) (A' n) (within n (omega arith)), outside_lt n A A' p (λ k less. within k (omega arith)) (omega arith) out inside)
     ]
 
 pub record GrowsIn (net : Net) (U A : ℕ → Bool) : Type 0 where

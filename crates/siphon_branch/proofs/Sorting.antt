@@ -18,7 +18,8 @@ use Rattle.net_values.specs.Net.{Net}
 use Rattle.net_values.specs.PlaceSets.{has}
 use Rattle.net_values.specs.TheList.{IsTheList}
 use Rattle.closed_sets.specs.ClosedSets.{IsMinimalSiphon}
-use Rattle.siphon_branch.specs.Met.{AreDistinct, IsListOf, Adds, Overruns, PassesLimit, IsGrownSet, IsMinimalSet}
+use Rattle.closed_sets.specs.MinimalSets.{IsMinimalSet}
+use Rattle.siphon_branch.specs.Met.{AreDistinct, IsListOf, Adds, Overruns, PassesLimit, IsGrownSet}
 use Rattle.siphon_branch.proofs.MinimalGrown.{minimal_grown}
 
 equal_sets : (one other : List Bool) → slice_cmp bool_cmp one other ≡ Equal → one ≡ other

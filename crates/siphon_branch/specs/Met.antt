@@ -1,20 +1,15 @@
 -- The sets that a search meets, as lists: each set is the list of truth values that tell for each place of
 -- the net whether it is in.
-use Rattle.std.specs.Prelude.{◌≡◌, ◌↔◌, ◌≤◌, ℕ, ◌+◌, List, Bool, ◌++◌, length, AllPairs, Any, Contains}
+use Rattle.std.specs.Prelude.{◌≡◌, ◌↔◌, ◌≤◌, ℕ, ◌+◌, List, Bool, ◌++◌, length, AllPairs, Contains}
 use Rattle.net_values.specs.Net.{Net}
 use Rattle.net_values.specs.PlaceSets.{has}
-use Rattle.closed_sets.specs.ClosedSets.{IsSiphon, IsWithin, IsNonempty, IsMinimalSiphon}
+use Rattle.closed_sets.specs.ClosedSets.{IsSiphon}
 use Rattle.closed_sets.specs.Growth.{Belongs, GrowsWhole, IsGrown}
 
 -- a grown siphon of the net
 pub record IsGrownSet (net : Net) (set : List Bool) : Type 0 where
   pub size : length set ≡ net.places
   pub grown : IsGrown net (has set)
-
--- a minimal siphon of the net
-pub record IsMinimalSet (net : Net) (set : List Bool) : Type 0 where
-  pub size : length set ≡ net.places
-  pub minimal : IsMinimalSiphon net (has set)
 
 -- no member occurs twice
 abbrev pub AreDistinct : {X : Type 0} → List X → Type 0
@@ -66,7 +61,3 @@ pub record Meets (Property : List Bool → Type 0) (limit : ℕ) (old new : List
 pub record Overruns (Property : List Bool → Type 0) (limit : ℕ) (old new : List (List Bool)) : Type 0 where
   pub adds : AddsSome Property old new
   pub count : length new ≡ limit + 1
-
--- every nonempty siphon contains a listed set
-abbrev pub CoversSiphons : Net → List (List Bool) → Type 0
-CoversSiphons net list = (S : ℕ → Bool) → IsSiphon net S → IsNonempty net S → Any (λ set. IsWithin net (has set) S) list

@@ -5,8 +5,9 @@ ghost use Rattle.net_values.specs.FlatNets.{net_of};
 ghost use Rattle.net_values.specs.PlaceSets.{has};
 ghost use Rattle.net_values.specs.TheList.{IsTheList};
 ghost use Rattle.closed_sets.specs.ClosedSets.{IsMinimalSiphon};
+ghost use Rattle.closed_sets.specs.MinimalSets.{CoversSiphons, IsMinimalSet};
 ghost use Rattle.siphon_branch.specs.Faults.{FailsToList};
-ghost use Rattle.siphon_branch.specs.Met.{AreDistinct, CoversSiphons, HasAtMostGrown, IsListOf, IsMinimalSet};
+ghost use Rattle.siphon_branch.specs.Met.{AreDistinct, HasAtMostGrown, IsListOf};
 
 use crate::fault::{SetFault, Stop};
 use crate::search::meet_all;

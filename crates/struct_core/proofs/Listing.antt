@@ -14,7 +14,8 @@ use Rattle.semiflow_elim.specs.FirstFail.{StepPasses, IsFirstFail, IsExplained}
 use Rattle.siphon_branch.specs.declared.fault.SetFault.{SetFault}
 use Rattle.siphon_branch.specs.declared.fault.SetFault.TheVariants as limits
 use Rattle.siphon_branch.specs.Faults.{FailsToList}
-use Rattle.siphon_branch.specs.Met.{IsMinimalSet, HasAtMostGrown}
+use Rattle.closed_sets.specs.MinimalSets.{IsMinimalSet}
+use Rattle.siphon_branch.specs.Met.{HasAtMostGrown}
 use Rattle.report.specs.Texts.{semiflows_text, sets_text}
 use Rattle.struct_core.specs.declared.refusal.Refusal.{Refusal}
 use Rattle.struct_core.specs.declared.refusal.Refusal.TheVariants.{Excess}

@@ -14,7 +14,7 @@ use Rattle.closed_sets.specs.ClosedSets.{IsSiphon, IsTrap}
 use Rattle.incidence.specs.Matrix.{Matrix, incidence_of, transposed}
 use Rattle.incidence.specs.Semiflow.{all_columns}
 use Rattle.semiflow_elim.specs.Bases.{IsMinimalRow}
-use Rattle.siphon_branch.specs.Met.{IsMinimalSet}
+use Rattle.closed_sets.specs.MinimalSets.{IsMinimalSet}
 use Rattle.pnml_grammar.specs.Canon.{canon}
 use Rattle.pnml_grammar.specs.Valued.{Valued}
 use Rattle.pnml_grammar.specs.Documents.{DocBytes}

@@ -9,7 +9,8 @@ use Rattle.incidence.specs.Semiflow.{all_columns}
 use Rattle.semiflow_elim.specs.declared.fault.ElimFault.TheVariants.{WideSum, RowBudget, WideRow}
 use Rattle.semiflow_elim.specs.Bases.{IsMinimalRow}
 use Rattle.semiflow_elim.specs.FirstFail.{StepPasses, IsFirstFail}
-use Rattle.siphon_branch.specs.Met.{IsMinimalSet, HasAtMostGrown, PassesLimit}
+use Rattle.closed_sets.specs.MinimalSets.{IsMinimalSet}
+use Rattle.siphon_branch.specs.Met.{HasAtMostGrown, PassesLimit}
 use Rattle.report.specs.Texts.{semiflows_text, sets_text}
 use Rattle.struct_core.specs.Lines.{wide_sum_line, wide_row_line, budget_line, limit_line}
 

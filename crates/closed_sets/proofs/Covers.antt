@@ -3,15 +3,12 @@
 use Rattle.std.proofs.Common.{◌≡◌, refl, sym, ap, ◌∙◌, ℕ, zero, suc, ◌<◌, ◌&&◌, List, [], ◌∷◌, Bool, IsTrue, not, length, Contains, inl, inr, arith}
 use Rattle.std.specs.List.{list_any}
 use Rattle.std.proofs.lemmas.List.Folds.{Any-from_list_any, list_any_at}
-use Rattle.std.specs.Cmp.Lexicographic.{slice_cmp}
-use Rattle.std.specs.Ordering.{bool_cmp}
 use Rattle.net_values.specs.Net.{Net}
 use Rattle.net_values.specs.PlaceSets.{has}
-use Rattle.net_values.specs.TheList.{IsTheList}
 use Rattle.closed_sets.specs.ClosedSets.{any_below, IsSiphon, IsWithin, IsNonempty, IsMinimalSiphon}
+use Rattle.closed_sets.specs.MinimalSets.{IsMinimalSet, CoversSiphons, MinimalSetsCover}
 use Rattle.closed_sets.proofs.Below.{cases_bool, apart, both, both_left, both_right, not_true, not_false, any_at, any_from, pair_at, pair_from}
-use Rattle.siphon_branch.specs.Met.{IsMinimalSet, CoversSiphons}
-use Rattle.siphon_branch.proofs.MinimalGrown.{outside, outside_lt}
+use Rattle.closed_sets.proofs.Outside.{outside, outside_lt}
 
 -- the list of the truth values of a set
 table : ℕ → (ℕ → Bool) → List Bool
@@ -84,7 +81,7 @@ module _ (net : Net) (list : List (List Bool)) (listed : (set : List Bool) → I
       let set = table net.places S in
       none set (listed set record { size = table_size net.places S; minimal = same_minimal net S (has set) (table_at net.places S) minimal }) (λ p below member. sym (table_at net.places S p below) ∙ member)
 
-pub covers : (net : Net) (list : List (List Bool)) → IsTheList (slice_cmp bool_cmp) (IsMinimalSet net) list → CoversSiphons net list
+pub covers : (net : Net) → MinimalSetsCover net
 covers net list the S siphon some =
     elim (cases_bool (list_any (lies_in net.places S) list)) [
       | inl found ↦ let at = Any-from_list_any (lies_in net.places S) list found in (at.0, at.1, at.2, at.3, lies_within net S at.1 at.4)
