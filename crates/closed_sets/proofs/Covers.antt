@@ -6,7 +6,7 @@ use Rattle.std.proofs.lemmas.List.Folds.{Any-from_list_any, list_any_at}
 use Rattle.net_values.specs.Net.{Net}
 use Rattle.net_values.specs.PlaceSets.{has}
 use Rattle.closed_sets.specs.ClosedSets.{any_below, IsSiphon, IsWithin, IsNonempty, IsMinimalSiphon}
-use Rattle.closed_sets.specs.MinimalSets.{IsMinimalSet, CoversSiphons, MinimalSetsCover}
+use Rattle.closed_sets.specs.MinimalSets.{IsMinimalSet, MinimalSetsCover}
 use Rattle.closed_sets.proofs.Below.{cases_bool, apart, both, both_left, both_right, not_true, not_false, any_at, any_from, pair_at, pair_from}
 use Rattle.closed_sets.proofs.Outside.{outside, outside_lt}
 

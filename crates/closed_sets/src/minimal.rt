@@ -1,4 +1,4 @@
-ghost use Rattle.std.specs.Prelude.{◌≡◌, ◌<◌, ◌↔◌, IsTrue, length, slice_set, false};
+ghost use Rattle.std.specs.Prelude.{◌≡◌, ◌<◌, ◌↔◌, IsTrue, length};
 ghost use Rattle.net_values.specs.FlatNets.{net_of};
 ghost use Rattle.net_values.specs.PlaceSets.{has};
 ghost use Rattle.closed_sets.specs.ClosedSets.{IsMinimalSiphon, HasSiphonWithout};
@@ -34,23 +34,8 @@ fn has_siphon_without(net: &FlatNet, set: &PlaceSet, p: usize, scratch: &mut Pla
     ensures exact { IsTrue result ↔ HasSiphonWithout (net_of net.now) (has set.now) p }
     ensures size { length scratch.new ≡ length scratch.old }
 {
-    copy_without(set, p, scratch);
+    scratch.copy_from(set);
+    scratch.remove(p);
     greatest_siphon(net, scratch);
     !scratch.is_empty()
-}
-
-/// Makes the copy equal to the set without place `p`.
-fn copy_without(set: &PlaceSet, p: usize, copy: &mut PlaceSet)
-    requires size { length copy.old ≡ length set.now }
-    requires place { p < length set.now }
-    ensures { copy.new ≡ slice_set set.now p false }
-{
-    for q in 0..set.size() {
-        if set.contains(q) {
-            copy.insert(q);
-        } else {
-            copy.remove(q);
-        }
-    }
-    copy.remove(p);
 }

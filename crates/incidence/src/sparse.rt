@@ -3,7 +3,7 @@ ghost use Rattle.incidence.specs.Sums.{sum_below};
 ghost use Rattle.incidence.specs.Tables.{IsTable, AddsAt, AddsRow, IsTurned, amount_at, at, column_at};
 
 use crate::wide_sum::{WideSum, add_product};
-use net_values::{CopyList, NoMemory};
+use net_values::{List, NoMemory};
 use std::alloc::Global;
 use std::marker::Model;
 
@@ -19,7 +19,7 @@ pub struct Amount {
 #[derive(Drop)]
 pub struct SparseTable {
     height: usize,
-    columns: Vec<CopyList<Amount>>,
+    columns: Vec<List<Amount>>,
 }
 
 impl Model for SparseTable {
@@ -39,7 +39,7 @@ impl SparseTable {
     {
         let mut columns = Vec::with_capacity(alloc, width)?;
         for _column in 0..width {
-            columns.push(CopyList::new(alloc))?;
+            columns.push(List::new(alloc))?;
         }
         Ok(SparseTable { height, columns })
     }

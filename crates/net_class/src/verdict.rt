@@ -31,9 +31,10 @@ pub fn commoner(alloc: Global, net: &FlatNet, siphons: &Sets) -> Result<Verdict,
     ensures safe { IfOk result (λ verdict. verdict ≡ Verdict.Yes → IsOrdinary (net_of net.now)
         → 0 < (net_of net.now).transitions → IsDeadlockFree (net_of net.now)) }
 {
+    let mut scratch = PlaceSet::new(alloc, net.places())?;
     let sets = siphons.as_slice();
     for siphon in sets {
-        if !has_marked_trap(alloc, net, siphon)? {
+        if !has_marked_trap(net, siphon, &mut scratch) {
             return Ok(Verdict::No(siphon.copy(alloc)?));
         }
     }
@@ -41,14 +42,16 @@ pub fn commoner(alloc: Global, net: &FlatNet, siphons: &Sets) -> Result<Verdict,
 }
 
 /// Whether the set contains a trap that is marked at the initial marking. It does where the greatest trap in
-/// it is marked.
-fn has_marked_trap(alloc: Global, net: &FlatNet, set: &PlaceSet) -> Result<bool, NoMemory>
-    requires { length set.now ≡ (net_of net.now).places }
-    ensures { IfOk result (λ holds. IsTrue holds ↔ HasMarkedTrap (net_of net.now) (has set.now)) }
+/// it is marked, which the scratch set then holds.
+fn has_marked_trap(net: &FlatNet, set: &PlaceSet, scratch: &mut PlaceSet) -> bool
+    requires set { length set.now ≡ (net_of net.now).places }
+    requires scratch { length scratch.old ≡ (net_of net.now).places }
+    ensures exact { IsTrue result ↔ HasMarkedTrap (net_of net.now) (has set.now) }
+    ensures size { length scratch.new ≡ length scratch.old }
 {
-    let mut trap = set.copy(alloc)?;
-    greatest_trap(net, &mut trap);
-    Ok(is_marked(net, &trap))
+    scratch.copy_from(set);
+    greatest_trap(net, scratch);
+    is_marked(net, scratch)
 }
 
 /// Whether a place of the set has a token at the initial marking.

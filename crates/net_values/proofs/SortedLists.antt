@@ -1,17 +1,16 @@
 -- A sorted list without two equal members is strictly ascending: of two members the later one isn't below
 -- the earlier, and where they don't compare as equal it is above. Sorting moves members and makes none
 -- equal.
-use Rattle.std.proofs.Common.{◌≡◌, ◌≢◌, ◌↔◌, refl, sym, ap, ◌∙◌, subst, ℕ, ◌<◌, ◌==◌, if◌then◌else◌, Bool, true, false, List, [], ◌∷◌, length, get_or, Contains, inl, inr, arith}
+use Rattle.std.proofs.Common.{◌≡◌, ◌≢◌, ◌↔◌, refl, sym, ap, ◌∙◌, subst, ℕ, ◌<◌, ◌==◌, if◌then◌else◌, false, List, length, get_or, Contains, inl, inr, arith}
 use Rattle.std.specs.declared.cmp.Ordering.{Ordering}
 use Rattle.std.specs.declared.cmp.Ordering.TheVariants.{Less, Equal, Greater}
-use Rattle.std.specs.Cmp.{IsTotalOrder, bool_cmp_total}
-use Rattle.std.specs.Cmp.Lexicographic.{slice_cmp}
+use Rattle.std.specs.Cmp.{IsTotalOrder}
+use Rattle.std.specs.FinMap.{IsAntisymmetric}
 use Rattle.std.specs.List.{swap}
 use Rattle.std.specs.List.Sorted.{IsPermutation, IsSorted}
-use Rattle.std.specs.Ordering.{nat_cmp, bool_cmp, is_lt, ordering_reverse, ordering_then}
+use Rattle.std.specs.Ordering.{is_lt, ordering_reverse}
 use Rattle.std.proofs.lemmas.Bool.{true≢false, cases_eq, cases_lt}
 use Rattle.std.proofs.lemmas.Bool.Decides.{nat_tests}
-use Rattle.std.proofs.lemmas.Cmp.{nat_cmp_total, lists_total}
 use Rattle.std.proofs.lemmas.List.Edits.{swapped_from_swap, length-swap}
 use Rattle.std.proofs.lemmas.List.Sorted.{ranks_by, sorted_far, Contains-permutation, IsPermutation-sym, IsPermutation-keeps}
 use Rattle.net_values.specs.TheList.{AreApart, IsStrictlyAscending, IsTheList}
@@ -67,9 +66,9 @@ less_from o Less back above other = absurd (true≢false above)
 less_from o Equal back above other = absurd (other back)
 less_from o Greater back above other = back
 
-module _ {X : Type 0} (compare : X → X → Ordering) (order : IsTotalOrder compare) (exact : (x y : X) → compare x y ≡ Equal → x ≡ y) where
+module _ {X : Type 0} (compare : X → X → Ordering) (order : IsTotalOrder compare) (exact : IsAntisymmetric compare) where
   -- a list without two equal members, sorted
-  ascending_from_sort : (xs ys : List X) → AreApart xs → IsPermutation xs ys → IsSorted compare ys → IsStrictlyAscending compare ys
+  pub ascending_from_sort : (xs ys : List X) → AreApart xs → IsPermutation xs ys → IsSorted compare ys → IsStrictlyAscending compare ys
   ascending_from_sort xs ys h moved sorted i j d before within =
       let x = get_or ys i d in
       let y = get_or ys j d in
@@ -77,39 +76,6 @@ module _ {X : Type 0} (compare : X → X → Ordering) (order : IsTotalOrder com
       less_from (compare x y) (compare y x) (order.antisymm x y)
       (sorted_far (λ x y. is_lt (compare x y)) (ranks_by order (λ (x : X). x)) ys sorted i j d (omega arith) within)
       (λ tied. apart.apart i j d (omega arith) within (omega arith) (exact x y tied))
-
-both_equal : (o r : Ordering) → ordering_then o r ≡ Equal → (o ≡ Equal) × (r ≡ Equal)
-both_equal Less r tied = absurd (cc)
-both_equal Equal r tied = (refl, tied)
-both_equal Greater r tied = absurd (cc)
-
--- lists that compare as equal are equal, where their members are
-lists_exact : {X : Type 0} (compare : X → X → Ordering) (exact : (x y : X) → compare x y ≡ Equal → x ≡ y) (xs ys : List X) → slice_cmp compare xs ys ≡ Equal → xs ≡ ys
-lists_exact compare exact [] [] tied = refl
-lists_exact compare exact [] (y ∷ ys) tied = absurd (cc)
-lists_exact compare exact (x ∷ xs) [] tied = absurd (cc)
-lists_exact compare exact (x ∷ xs) (y ∷ ys) tied =
-    let parts = both_equal (compare x y) (slice_cmp compare xs ys) tied in
-    let head = exact x y parts.0 in
-    let tail = lists_exact compare exact xs ys parts.1 in
-    cc
-
-numbers_exact : (x y : ℕ) → nat_cmp x y ≡ Equal → x ≡ y
-numbers_exact x y tied = grind (arith, nat_tests)
-
-booleans_exact : (x y : Bool) → bool_cmp x y ≡ Equal → x ≡ y
-booleans_exact false false tied = refl
-booleans_exact false true tied = absurd (cc)
-booleans_exact true false tied = absurd (cc)
-booleans_exact true true tied = refl
-
--- vectors, sorted
-pub vectors_ascend : (xs ys : List (List ℕ)) → AreApart xs → IsPermutation xs ys → IsSorted (slice_cmp nat_cmp) ys → IsStrictlyAscending (slice_cmp nat_cmp) ys
-vectors_ascend = ascending_from_sort (slice_cmp nat_cmp) (lists_total nat_cmp_total) (lists_exact nat_cmp numbers_exact)
-
--- place sets, sorted
-pub sets_ascend : (xs ys : List (List Bool)) → AreApart xs → IsPermutation xs ys → IsSorted (slice_cmp bool_cmp) ys → IsStrictlyAscending (slice_cmp bool_cmp) ys
-sets_ascend = ascending_from_sort (slice_cmp bool_cmp) (lists_total bool_cmp_total) (lists_exact bool_cmp booleans_exact)
 
 -- what a sort makes of a list that has each thing with the property once
 pub the_list_from_sort : {X : Type 0} (compare : X → X → Ordering) (Property : X → Type 0) (xs ys : List X) → ((x : X) → Contains xs x ↔ Property x) → IsPermutation xs ys → IsStrictlyAscending compare ys → IsTheList compare Property ys

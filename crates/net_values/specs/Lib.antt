@@ -4,6 +4,7 @@ pub mod Items
 pub mod PlaceSets
 pub mod Vectors
 pub mod TheList
+pub mod Comparisons
 pub mod Columns
 pub mod Net
 pub mod FlatNets

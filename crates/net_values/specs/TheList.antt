@@ -3,10 +3,14 @@ use Rattle.std.specs.Prelude.{◌≡◌, ◌≢◌, ◌↔◌, ℕ, List, length
 use Rattle.std.specs.declared.cmp.Ordering.{Ordering}
 use Rattle.std.specs.declared.cmp.Ordering.TheVariants.{Less}
 
--- all members have one length
-pub record HaveOneLength {X : Type 0} (lists : List (List X)) : Type 0 where
+-- all members have one size
+pub record AreAlike {X : Type 0} (size : X → ℕ) (list : List X) : Type 0 where
   pub common : ℕ
-  pub alike : All (λ list. length list ≡ common) lists
+  pub alike : All (λ x. size x ≡ common) list
+
+-- all members have one length
+abbrev pub HaveOneLength : {X : Type 0} → List (List X) → Type 0
+HaveOneLength lists = AreAlike length lists
 
 -- no two members are equal
 pub record AreApart {X : Type 0} (list : List X) : Type 0 where

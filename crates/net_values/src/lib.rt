@@ -2,6 +2,7 @@
 //! place sets, each seen by contracts as the plain list or record that it represents.
 #![tactic(auto)]
 
+mod alike;
 mod column;
 mod document;
 mod flat_net;
@@ -12,14 +13,13 @@ mod marking;
 mod no_memory;
 mod node_kind;
 mod place_set;
-mod rows;
-mod sets;
 #[cfg(test)]
 mod tests;
 mod text;
 mod token_game;
 mod vector;
 
+pub use alike::{AlikeList, Listed};
 pub use column::WeightedPlace;
 pub use document::{
     ArcNode, Document, Item, Items, NetTree, PageNode, PlaceNode, RefNode, TransitionNode,
@@ -30,13 +30,11 @@ pub use limits::{
     MAX_ARCS, MAX_ENTRIES, MAX_ID_BYTES, MAX_INPUT_BYTES, MAX_NAME_BYTES, MAX_OPEN_ELEMENTS,
     MAX_PAGES, MAX_PLACES, MAX_REFERENCES, MAX_TOKEN_BYTES, MAX_TRANSITIONS,
 };
-pub use list::{CopyList, List};
+pub use list::List;
 pub use marking::Marking;
 pub use no_memory::NoMemory;
 pub use node_kind::NodeKind;
-pub use place_set::PlaceSet;
-pub use rows::Rows;
-pub use sets::Sets;
+pub use place_set::{PlaceSet, Sets};
 pub use text::Text;
 pub use token_game::FireFault;
-pub use vector::Vector;
+pub use vector::{Rows, Vector};

@@ -7,6 +7,7 @@ ghost use Rattle.std.specs.Cmp.Rules.{comparing};
 ghost use Rattle.std.specs.Ordering.{is_eq, as_partial_cmp, bool_cmp};
 ghost use Rattle.net_values.specs.PlaceSets.{complement, has, IsEmpty, IsSubset};
 
+use crate::alike::{AlikeList, Listed};
 use crate::limits::MAX_ENTRIES;
 use crate::no_memory::NoMemory;
 use std::alloc::Global;
@@ -160,3 +161,17 @@ impl Ord for PlaceSet {
         self.members.cmp(&other.members)
     }
 }
+
+impl Listed for PlaceSet {
+    ghost use Rattle.std.specs.Prelude.{length};
+    ghost use Rattle.std.specs.FinMap.{slice_cmp-IsAntisymmetric};
+    ghost use Rattle.net_values.specs.Comparisons.{bool_cmp-IsAntisymmetric};
+
+    ghost size = { length };
+
+    ghost exact = { slice_cmp-IsAntisymmetric bool_cmp-IsAntisymmetric };
+}
+
+/// A list of place sets of one size. Contracts see it as the list of their lists of truth values, and
+/// sort it in lexicographic order of these.
+pub type Sets = AlikeList<PlaceSet>;

@@ -1,7 +1,8 @@
-ghost use Rattle.std.specs.Prelude.{◌≡◌, [], ◌++◌, IfOk, OnOk, OnErr};
+ghost use Rattle.std.specs.Prelude.{◌≡◌, [], ◌++◌, IfOk, OnOk, OnErr, decimal};
 ghost use Rattle.std.specs.Str.{IsUtf8};
 
 use crate::no_memory::NoMemory;
+use itoa::Buffer;
 use std::alloc::Global;
 use std::marker::Model;
 
@@ -50,6 +51,15 @@ impl Text {
     {
         self.text.push_str(piece)?;
         Ok(())
+    }
+
+    /// Appends a number in decimal. A refusal leaves the text unchanged.
+    pub fn push_number(&mut self, number: u128) -> Result<(), NoMemory>
+        ensures ok { OnOk result (self.new ≡ self.old ++ decimal number) }
+        ensures err { OnErr result (self.new ≡ self.old) }
+    {
+        let mut buffer = Buffer::new();
+        self.push(buffer.format(number))
     }
 
     /// The bytes, which are UTF-8.

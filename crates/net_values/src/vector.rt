@@ -7,6 +7,7 @@ ghost use Rattle.std.specs.Cmp.Rules.{comparing};
 ghost use Rattle.std.specs.Ordering.{is_eq, as_partial_cmp, nat_cmp};
 ghost use Rattle.net_values.specs.Vectors.{IsVector, positive_part};
 
+use crate::alike::{AlikeList, Listed};
 use crate::limits::MAX_ENTRIES;
 use crate::no_memory::NoMemory;
 use std::alloc::Global;
@@ -132,3 +133,16 @@ impl Ord for Vector {
         self.entries.cmp(&other.entries)
     }
 }
+
+impl Listed for Vector {
+    ghost use Rattle.std.specs.Prelude.{length};
+    ghost use Rattle.std.specs.FinMap.{nat_cmp-IsAntisymmetric, slice_cmp-IsAntisymmetric};
+
+    ghost size = { length };
+
+    ghost exact = { slice_cmp-IsAntisymmetric nat_cmp-IsAntisymmetric };
+}
+
+/// A list of vectors of one length, as a matrix has them for its rows. Contracts see it as the list of
+/// their lists of entries, and sort it in lexicographic order of the entries.
+pub type Rows = AlikeList<Vector>;

@@ -78,14 +78,17 @@ equal_kinds OfTransitions OfTransitions = inl refl
 pub distinct_or_repeated : (front rest : List (List ℕ)) → AreDistinct front → AreDistinct (front ++ rest) ⊎ ((id : List ℕ) × IsFirstRepeated (front ++ rest) id)
 distinct_or_repeated front [] distinct = inl (subst AreDistinct (sym (append-nil front)) distinct)
 distinct_or_repeated front (id ∷ rest) distinct = elim (somewhere (λ other. other ≡ id) (λ other. same_id other id) front) [
-  | inl found ↦ inr (id, record {
+  | inl found ↦ inr (
+    id,
+    record {
       front = front;
       back = rest;
       occurs = refl;
       before = distinct;
       place = found.0;
       repeated = found.2 ∙ ap Some found.3;
-    })
+    },
+  )
   | inr fresh ↦
       subst (λ ids. AreDistinct ids ⊎ ((x : List ℕ) × IsFirstRepeated ids x)) (append_assoc front (id ∷ []) rest)
       (distinct_or_repeated (front ++ id ∷ []) rest (distinct_push front id distinct (λ n at. fresh n id at refl)))
@@ -184,12 +187,15 @@ module _ (net : NetTree) (ids : HasDistinctIds net) (known : MentionsNodes net) 
   resolves_or_not : (id : List ℕ) → Decided ((end : End) × Resolves (elements net) id end)
   resolves_or_not id = elim (known_or_not (entries net) record { id = id; by = id }) [
     | inl node ↦ elim (ends_or_not linked.0 node.1.0) [
-      | inl found ↦ inl (found.0, resolves_by_id (elements net) linked.0 distinct linked.1 id found.0 record {
+      | inl found ↦ inl (
+        found.0,
+        resolves_by_id (elements net) linked.0 distinct linked.1 id found.0 record {
           number = node.1.0;
           kind = node.0;
           occurs = node.1.1;
           ends = found.1;
-        })
+        },
+      )
       | inr none ↦ inr (λ h. none (h.0, ends_at_number (entries net) linked.0 distinct node.1.0 id (Some node.0) h.0 node.1.1 (ends_by_id (elements net) linked.0 distinct linked.1 id h.0 h.1)))
     ]
     | inr none ↦ inr (λ h. let found = ends_by_id (elements net) linked.0 distinct linked.1 id h.0 h.1 in none (found.kind, (found.number, found.occurs)))
@@ -205,12 +211,12 @@ module _ (net : NetTree) (ids : HasDistinctIds net) (known : MentionsNodes net) 
     | inl from ↦ elim (resolves_or_not arc.target) [
       | inl to ↦ elim (place_and_transition from.0 to.0) [
         | inl apart ↦ inl record {
-            source = from.0;
-            target = to.0;
-            source_resolves = from.1;
-            target_resolves = to.1;
-            apart = apart;
-          }
+          source = from.0;
+          target = to.0;
+          source_resolves = from.1;
+          target_resolves = to.1;
+          apart = apart;
+        }
         | inr alike ↦ inr (λ h.
             let source : h.source ≡ from.0 = one_end_of (elements net) ids arc.source h.source from.0 h.source_resolves from.1 in
             let target : h.target ≡ to.0 = one_end_of (elements net) ids arc.target h.target to.0 h.target_resolves to.1 in

@@ -133,6 +133,7 @@ module _ (net : NetTree) where
         go_inputs : (l : List FlatArc) → AllByRecursion (λ (arc : FlatArc). IsEndOf arc.source × IsEndOf arc.target) l → AllByRecursion (λ (arc : FlatArc). entry_of arc.source arc.target arc.weight t ≡ []) l
         go_inputs [] all = tt
         go_inputs (arc ∷ l) all = (entry_beyond _ _ arc.source arc.target arc.weight t all.0.1 beyond, go_inputs l all.1)
+
         go_outputs : (l : List FlatArc) → AllByRecursion (λ (arc : FlatArc). IsEndOf arc.source × IsEndOf arc.target) l → AllByRecursion (λ (arc : FlatArc). entry_of arc.target arc.source arc.weight t ≡ []) l
         go_outputs [] all = tt
         go_outputs (arc ∷ l) all = (entry_beyond _ _ arc.target arc.source arc.weight t all.0.0 beyond, go_outputs l all.1)

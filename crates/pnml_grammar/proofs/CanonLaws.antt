@@ -6,14 +6,14 @@ use Rattle.pnml_grammar.specs.Tokens.{first_offset}
 use Rattle.pnml_grammar.specs.Valued.{Valued}
 use Rattle.pnml_grammar.specs.Documents.{DocBytes}
 use Rattle.pnml_grammar.specs.Canon.{canon}
-use Rattle.pnml_grammar.specs.CanonicalTexts.{TellDocumentsApart}
+use Rattle.pnml_grammar.specs.CanonicalTexts.{SpellTheirDocuments, TellDocumentsApart}
 use Rattle.pnml_grammar.proofs.FaultLaws.{tokens_are_legal}
 use Rattle.pnml_grammar.proofs.DocumentLaws.{read_spells, spells_one}
 use Rattle.pnml_grammar.proofs.CanonTokens.{canon_tokens}
 use Rattle.pnml_grammar.proofs.CanonSpelling.{canon_spelled}
 use Rattle.pnml_grammar.proofs.CanonReading.{canon_read}
 
-pub canon_is : (document : Document) → Valued document → DocBytes document (canon document)
+pub canon_is : SpellTheirDocuments
 canon_is document valued =
     let spelled = canon_spelled document valued in
     let legal = tokens_are_legal (canon document) (canon_tokens document) (first_offset (canon document)) (length (canon document)) spelled in

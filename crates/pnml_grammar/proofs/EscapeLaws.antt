@@ -66,7 +66,7 @@ fine_at (suc n) e b h =
 all_fine : fine_below 128 ≡ true
 all_fine = refl
 
--- a byte that occurs as it is
+-- a byte that is written as it is
 pub escape_plain : (b : ℕ) → (not (b == 38) && is_clean b) ≡ true → escape b ≡ b ∷ []
 escape_plain b plain =
     let e0 : (b == 38) ≡ false = grind (arith, nat_tests) in

@@ -1,11 +1,11 @@
 -- The test of a document tells whether it is valued: each test of a value is exact, and the walk over the items
 -- tests the same at each item as the definitions that run over them.
-use Rattle.std.proofs.Common.{◌≡◌, ℕ, ◌≤◌, ◌^◌, Bool, true, List, [], ◌∷◌, Option, Some, None, refl, sym, ap, ◌∙◌, arith, length}
+use Rattle.std.proofs.Common.{◌≡◌, ℕ, ◌≤◌, ◌^◌, Bool, true, List, [], ◌∷◌, Option, Some, None, refl, sym, ap, ◌∙◌, arith, length, inl, inr}
 use Rattle.std.specs.Prelude.{◌↔◌, ◌==◌, ◌&&◌, not, nat_le, nat_lt, chars, IsUtf8, IsTrue}
 use Rattle.std.specs.List.{AllByRecursion, list_all}
 use Rattle.std.specs.Str.{is_utf8, all_scalars}
 use Rattle.std.proofs.Math.Utf8.{scalar}
-use Rattle.std.proofs.lemmas.Bool.{and_parts, and_from, leb-true, ltb-true, le-leb, lt-ltb, eqb-false, ne_eqb, not-true}
+use Rattle.std.proofs.lemmas.Bool.{cases_Bool, true≢false, and_parts, and_from, leb-true, ltb-true, le-leb, lt-ltb, eqb-false, ne_eqb, not-true}
 use Rattle.std.proofs.lemmas.Str.{chars-encodes, encodes-chars, IsUtf8-from_is_utf8, is_utf8-from_IsUtf8}
 use Rattle.net_values.specs.declared.document.Document.{Document}
 use Rattle.net_values.specs.declared.document.RefNode.{RefNode}
@@ -13,7 +13,7 @@ use Rattle.net_values.specs.declared.document.Item.{Item}
 use Rattle.net_values.specs.declared.document.Item.TheVariants.{Page, PageEnd, Place, Transition, RefPlace, RefTransition, Arc}
 use Rattle.net_values.specs.Characters.{IsLegalCharacter, IsTextOf, IsIdCharacter, IsId, IsNameValue}
 use Rattle.pnml_grammar.specs.Resolving.{is_legal_character}
-use Rattle.pnml_grammar.specs.Valued.{IsNameIfAny, HasValuesInRange, IsWithinLimits, Valued}
+use Rattle.pnml_grammar.specs.Valued.{IsNameIfAny, HasValuesInRange, IsWithinLimits, Valued, IsValuedOrNot}
 use Rattle.pnml_grammar.specs.ValuedTests.{is_text_of, is_id_character, is_valued_id, is_valued_name, is_valued_name_if_any, is_weight, has_values_in_range, start, walks, is_valued}
 use Rattle.pnml_grammar.proofs.EachLaws.{each_found, each_tested, each_weaker}
 use Rattle.pnml_grammar.proofs.ReferenceLaws.{legal_is, legal_found}
@@ -185,3 +185,10 @@ valued_is document h =
 -- the test tells whether the document is valued
 pub valued_decided : (document : Document) (b : Bool) → b ≡ is_valued document → IsTrue b ↔ Valued document
 valued_decided document b e = (λ holds. valued_found document (sym e ∙ holds), λ h. e ∙ valued_is document h)
+
+pub valued_or_not : IsValuedOrNot
+valued_or_not document =
+    elim (cases_Bool (is_valued document)) [
+      | inl holds ↦ inl (valued_found document holds)
+      | inr fails ↦ inr (λ valued. true≢false (sym (valued_is document valued) ∙ fails))
+    ]

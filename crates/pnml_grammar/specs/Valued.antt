@@ -1,5 +1,5 @@
 -- Documents whose values are in the ranges that this project reads and writes.
-use Rattle.std.specs.Prelude.{◌≡◌, ◌==◌, if◌then◌else◌, ℕ, ◌+◌, ◌-◌, ◌^◌, ◌≤◌, ◌<◌, List, [], ◌∷◌, Option, Some, None, IfSome, count_by}
+use Rattle.std.specs.Prelude.{◌≡◌, ◌==◌, if◌then◌else◌, ℕ, ◌+◌, ◌-◌, ◌^◌, ◌≤◌, ◌<◌, List, [], ◌∷◌, Option, Some, None, IfSome, count_by, ◌⊎◌}
 use Rattle.std.specs.List.{AllByRecursion}
 use Rattle.net_values.specs.declared.document.Document.{Document}
 use Rattle.net_values.specs.declared.document.Item.{Item}
@@ -67,3 +67,7 @@ pub record Valued (document : Document) : Type 0 where
   pub pages : PagesMatch 0 document.net.items
   pub shallow : IsShallow 2 document.net.items
   pub limits : IsWithinLimits document.net.items
+
+-- a document is valued, or it isn't
+abbrev pub IsValuedOrNot : Type 0
+IsValuedOrNot = (document : Document) → Valued document ⊎ (Valued document → ⊥)

@@ -22,6 +22,23 @@ pub enum ElementKind {
     Toolspecific,
 }
 
+const ELEMENT_KINDS: [ElementKind; 14] = [
+    ElementKind::Pnml,
+    ElementKind::Net,
+    ElementKind::Page,
+    ElementKind::Place,
+    ElementKind::Transition,
+    ElementKind::Arc,
+    ElementKind::ReferencePlace,
+    ElementKind::ReferenceTransition,
+    ElementKind::Name,
+    ElementKind::InitialMarking,
+    ElementKind::Inscription,
+    ElementKind::Text,
+    ElementKind::Graphics,
+    ElementKind::Toolspecific,
+];
+
 impl ElementKind {
     ghost use Rattle.pnml_grammar.specs.Elements.{element_named};
 
@@ -30,23 +47,8 @@ impl ElementKind {
     pub fn named(name: &[u8]) -> Option<ElementKind>
         ensures { result ≡ element_named name.now }
     {
-        match find_in(&ELEMENTS.names, name)? {
-            0 => Some(ElementKind::Pnml),
-            1 => Some(ElementKind::Net),
-            2 => Some(ElementKind::Page),
-            3 => Some(ElementKind::Place),
-            4 => Some(ElementKind::Transition),
-            5 => Some(ElementKind::Arc),
-            6 => Some(ElementKind::ReferencePlace),
-            7 => Some(ElementKind::ReferenceTransition),
-            8 => Some(ElementKind::Name),
-            9 => Some(ElementKind::InitialMarking),
-            10 => Some(ElementKind::Inscription),
-            11 => Some(ElementKind::Text),
-            12 => Some(ElementKind::Graphics),
-            13 => Some(ElementKind::Toolspecific),
-            _ => None,
-        }
+        let index = find_in(&ELEMENTS.names, name)?;
+        ELEMENT_KINDS.get(index).copied()
     }
 }
 
@@ -61,6 +63,15 @@ pub enum AttributeKind {
     Xmlns,
 }
 
+const ATTRIBUTE_KINDS: [AttributeKind; 6] = [
+    AttributeKind::Id,
+    AttributeKind::NetType,
+    AttributeKind::Source,
+    AttributeKind::Target,
+    AttributeKind::Ref,
+    AttributeKind::Xmlns,
+];
+
 impl AttributeKind {
     ghost use Rattle.pnml_grammar.specs.Elements.{attribute_named};
 
@@ -69,15 +80,8 @@ impl AttributeKind {
     pub fn named(name: &[u8]) -> Option<AttributeKind>
         ensures { result ≡ attribute_named name.now }
     {
-        match find_in(&ATTRIBUTES.names, name)? {
-            0 => Some(AttributeKind::Id),
-            1 => Some(AttributeKind::NetType),
-            2 => Some(AttributeKind::Source),
-            3 => Some(AttributeKind::Target),
-            4 => Some(AttributeKind::Ref),
-            5 => Some(AttributeKind::Xmlns),
-            _ => None,
-        }
+        let index = find_in(&ATTRIBUTES.names, name)?;
+        ATTRIBUTE_KINDS.get(index).copied()
     }
 }
 

@@ -1,7 +1,8 @@
-ghost use Rattle.pnml_grammar.specs.CanonicalTexts.{TellDocumentsApart};
+ghost use Rattle.pnml_grammar.specs.CanonicalTexts.{SpellTheirDocuments, TellDocumentsApart};
 ghost use Rattle.pnml_grammar.specs.Documents.{SpellOneDocument};
 ghost use Rattle.pnml_grammar.specs.FirstFault.{HaveOneAnswer, HaveSomeAnswer, RowsTellFaults};
 ghost use Rattle.pnml_grammar.specs.Tokens.{HasOneToken, HasTokenOrNone};
+ghost use Rattle.pnml_grammar.specs.Valued.{IsValuedOrNot};
 
 /// At an offset a token occurs, or none does.
 pub fn a_token_or_none()
@@ -31,6 +32,16 @@ pub fn one_answer()
 /// After tokens that begin a document, some row of reasons applies exactly where no token goes on.
 pub fn a_reason_at_each_fault()
     ensures { RowsTellFaults }
+{}
+
+/// A document is valued, or it isn't.
+pub fn a_document_is_valued_or_not()
+    ensures { IsValuedOrNot }
+{}
+
+/// The canonical text of a valued document spells it.
+pub fn canonical_text_spells_its_document()
+    ensures { SpellTheirDocuments }
 {}
 
 /// Canonical texts of valued documents are equal exactly where the documents are equal.

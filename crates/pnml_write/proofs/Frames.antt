@@ -31,5 +31,5 @@ canon_is document =
     ∙ sym (append_assoc (front ++ net_text document.net) (end_tag (codes "pnml")) (10 ∷ []))
 
 -- three pieces after nothing
-pub three_pieces : (empty first second third text head net end : List ℕ) → empty ≡ [] → first ≡ empty ++ head → second ≡ first ++ net → third ≡ second ++ end → text ≡ third → text ≡ head ++ net ++ end
-three_pieces empty first second third text head net end none one two three same = rw (same, three, two, one, none) refl
+pub three_pieces : (empty first second third head net end : List ℕ) → empty ≡ [] → first ≡ empty ++ head → second ≡ first ++ net → third ≡ second ++ end → third ≡ head ++ net ++ end
+three_pieces empty first second third head net end none one two three = rw (three, two, one, none) refl

@@ -4,7 +4,8 @@ ghost use Rattle.pnml_grammar.specs.Documents.{DocBytes};
 ghost use Rattle.pnml_grammar.specs.Valued.{Valued};
 ghost use Rattle.pnml_write.specs.Elements.{after_attributes};
 
-use crate::markup::Markup;
+use crate::elements::{push_attribute, push_name_if_any, push_named_rest};
+use crate::items::push_items;
 use net_values::{Document, NetTree, NoMemory, Text};
 use std::alloc::Global;
 
@@ -22,34 +23,32 @@ pub fn canonical(alloc: Global, document: &Document) -> Result<Text, NoMemory>
     ensures exact { IfOk result (λ text. text ≡ canon document.now) }
     ensures spells { IfOk result (λ text. Valued document.now → DocBytes document.now text) }
 {
-    let mut markup = Markup::new(alloc);
-    markup.push(HEAD)?;
-    markup.push_net(&document.net)?;
-    markup.push("</pnml>\n")?;
-    Ok(markup.into_text())
+    let mut text = Text::new(alloc);
+    text.push(HEAD)?;
+    push_net(&mut text, &document.net)?;
+    text.push("</pnml>\n")?;
+    Ok(text)
 }
 
-impl Markup {
-    /// Appends a net.
-    fn push_net(&mut self, net: &NetTree) -> Result<(), NoMemory>
-        ensures { OnOk result (self.new ≡ self.old ++ net_text net.now) }
-    {
-        self.push_attribute("<net id=\"", &net.id)?;
-        self.push(NET_TYPE)?;
-        self.push_net_rest(net)
-    }
+/// Appends a net.
+fn push_net(text: &mut Text, net: &NetTree) -> Result<(), NoMemory>
+    ensures { OnOk result (text.new ≡ text.old ++ net_text net.now) }
+{
+    push_attribute(text, "<net id=\"", &net.id)?;
+    text.push(NET_TYPE)?;
+    push_net_rest(text, net)
+}
 
-    /// Appends what follows a net's attributes.
-    fn push_net_rest(&mut self, net: &NetTree) -> Result<(), NoMemory>
-        ensures { let children = name_text net.now.name ++ items_text net.now.items in
-            OnOk result (self.new ≡ self.old ++ after_attributes children (codes "</net>")) }
-    {
-        if net.items.len() == 0 {
-            return self.push_named_rest(&net.name, "</net>");
-        }
-        self.push(">")?;
-        self.push_name_if_any(&net.name)?;
-        self.push_items(net.items.as_slice())?;
-        self.push("</net>")
+/// Appends what follows a net's attributes.
+fn push_net_rest(text: &mut Text, net: &NetTree) -> Result<(), NoMemory>
+    ensures { let children = name_text net.now.name ++ items_text net.now.items in
+        OnOk result (text.new ≡ text.old ++ after_attributes children (codes "</net>")) }
+{
+    if net.items.len() == 0 {
+        return push_named_rest(text, &net.name, "</net>");
     }
+    text.push(">")?;
+    push_name_if_any(text, &net.name)?;
+    push_items(text, net.items.as_slice())?;
+    text.push("</net>")
 }

@@ -6,7 +6,6 @@ mod document;
 mod elements;
 mod escapes;
 mod items;
-mod markup;
 mod nodes;
 
 pub use document::canonical;

@@ -75,6 +75,6 @@ kept piece test n old mid new is_first flag before fails same_text same_flag =
     }
 
 -- four pieces after nothing
-pub four_pieces : (empty one two three four text a b c d : List ℕ) → empty ≡ [] → one ≡ empty ++ a → two ≡ one ++ b → three ≡ two ++ c → four ≡ three ++ d → text ≡ four → text ≡ a ++ b ++ c ++ d
-four_pieces empty one two three four text a b c d none first second third fourth same =
-    rw (same, fourth, third, second, first, none) refl
+pub four_pieces : (empty one two three four a b c d : List ℕ) → empty ≡ [] → one ≡ empty ++ a → two ≡ one ++ b → three ≡ two ++ c → four ≡ three ++ d → four ≡ a ++ b ++ c ++ d
+four_pieces empty one two three four a b c d none first second third fourth =
+    rw (fourth, third, second, first, none) refl

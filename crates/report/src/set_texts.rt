@@ -4,7 +4,7 @@ ghost use Rattle.net_values.specs.FlatNets.{net_of};
 ghost use Rattle.report.specs.Nodes.{place_id};
 ghost use Rattle.report.specs.Texts.{members, set_line, sets_text as set_report};
 
-use crate::lines::Lines;
+use crate::lines::{push_count, push_space};
 use net_values::{FlatNet, NoMemory, PlaceSet, Sets, Text};
 use std::alloc::Global;
 
@@ -30,48 +30,46 @@ fn sets_text(alloc: Global, word: &str, net: &FlatNet, sets: &Sets) -> Result<Te
     requires { All (λ set. length set ≡ (net_of net.now).places) sets.now }
     ensures { IfOk result (λ text. text ≡ set_report word.now (place_id net.now) sets.now) }
 {
-    let mut lines = Lines::new(alloc);
-    lines.push_sets(net, sets.as_slice())?;
-    lines.push_count(word, sets.len())?;
-    Ok(lines.into_text())
+    let mut text = Text::new(alloc);
+    push_sets(&mut text, net, sets.as_slice())?;
+    push_count(&mut text, word, sets.len())?;
+    Ok(text)
 }
 
-impl Lines {
-    /// Appends the lines of sets.
-    fn push_sets(&mut self, net: &FlatNet, sets: &[PlaceSet]) -> Result<(), NoMemory>
-        requires { All (λ set. length set ≡ (net_of net.now).places) sets.now }
-        ensures { let line = set_line (place_id net.now) in
-            OnOk result (self.new ≡ self.old ++ flat_map line sets.now) }
-    {
-        for set in sets {
-            self.push_set(net, set)?;
-        }
-        Ok(())
+/// Appends the lines of sets.
+fn push_sets(text: &mut Text, net: &FlatNet, sets: &[PlaceSet]) -> Result<(), NoMemory>
+    requires { All (λ set. length set ≡ (net_of net.now).places) sets.now }
+    ensures { let line = set_line (place_id net.now) in
+        OnOk result (text.new ≡ text.old ++ flat_map line sets.now) }
+{
+    for set in sets {
+        push_set(text, net, set)?;
     }
+    Ok(())
+}
 
-    /// Appends the line of a set.
-    fn push_set(&mut self, net: &FlatNet, set: &PlaceSet) -> Result<(), NoMemory>
-        requires { length set.now ≡ (net_of net.now).places }
-        ensures { OnOk result (self.new ≡ self.old ++ set_line (place_id net.now) set.now) }
-    {
-        self.push_members(net, set)?;
-        self.push("\n")
-    }
+/// Appends the line of a set.
+fn push_set(text: &mut Text, net: &FlatNet, set: &PlaceSet) -> Result<(), NoMemory>
+    requires { length set.now ≡ (net_of net.now).places }
+    ensures { OnOk result (text.new ≡ text.old ++ set_line (place_id net.now) set.now) }
+{
+    push_members(text, net, set)?;
+    text.push("\n")
+}
 
-    /// Appends the ids of the places of a set, with one space between.
-    fn push_members(&mut self, net: &FlatNet, set: &PlaceSet) -> Result<(), NoMemory>
-        requires { length set.now ≡ (net_of net.now).places }
-        ensures { let pieces = members (place_id net.now) set.now in
-            OnOk result (self.new ≡ self.old ++ join_with_byte 32 pieces) }
-    {
-        let mut is_first = true;
-        for p in 0..set.size() {
-            if set.contains(p) {
-                self.push_space(is_first)?;
-                self.push(net.place_id(p).as_str())?;
-                is_first = false;
-            }
+/// Appends the ids of the places of a set, with one space between.
+fn push_members(text: &mut Text, net: &FlatNet, set: &PlaceSet) -> Result<(), NoMemory>
+    requires { length set.now ≡ (net_of net.now).places }
+    ensures { let pieces = members (place_id net.now) set.now in
+        OnOk result (text.new ≡ text.old ++ join_with_byte 32 pieces) }
+{
+    let mut is_first = true;
+    for p in 0..set.size() {
+        if set.contains(p) {
+            push_space(text, is_first)?;
+            text.push(net.place_id(p).as_str())?;
+            is_first = false;
         }
-        Ok(())
     }
+    Ok(())
 }

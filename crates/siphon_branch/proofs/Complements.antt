@@ -1,53 +1,14 @@
--- The complement of the avoided set, place by place, and the greatest siphon in it. A siphon belongs to a
--- class exactly where it contains the one set and lies in the complement of the other, so some siphon
--- belongs to it exactly where the greatest siphon in the complement contains the one set.
-use Rattle.std.proofs.Common.{◌≡◌, ◌↔◌, sym, ◌∙◌, ℕ, ◌+◌, ◌<◌, ◌≤◌, List, Bool, true, false, IsTrue, not, length, set, replicate, length-set, inl, inr, arith}
-use Rattle.std.proofs.lemmas.Bool.{cases_lt, cases_eq}
-use Rattle.std.proofs.lemmas.List.{get_or_past, get_or-set_same, get_or-set_other, get_or-replicate, length-replicate}
+-- A siphon belongs to a class exactly where it contains the one set and lies in the complement of the other,
+-- so some siphon belongs to it exactly where the greatest siphon in the complement contains the one set.
+use Rattle.std.proofs.Common.{◌≡◌, ◌↔◌, sym, ◌∙◌, ℕ, ◌<◌, List, Bool, false, IsTrue, not, length, inl, inr, arith}
+use Rattle.std.proofs.lemmas.Bool.{cases_lt}
+use Rattle.std.proofs.lemmas.List.{get_or_past}
 use Rattle.net_values.specs.Net.{Net}
 use Rattle.net_values.specs.PlaceSets.{has, IsSubset}
 use Rattle.closed_sets.specs.ClosedSets.{IsWithin, IsGreatestSiphon}
 use Rattle.closed_sets.proofs.Below.{cases_bool, apart, not_true, not_false}
 use Rattle.siphon_branch.specs.declared.branch.Branch.{Branch}
 use Rattle.siphon_branch.specs.Classes.{HasSize, IsLive}
-
--- the complement is made for the first places, and the later ones are still out
-pub record IsComplementTo (members others : List Bool) (n : ℕ) : Type 0 where
-  pub size : length others ≡ length members
-  pub before : (q : ℕ) → q < n → has others q ≡ not (has members q)
-  pub after : (q : ℕ) → n ≤ q → has others q ≡ false
-
-pub complement_none : (members : List Bool) → IsComplementTo members (replicate (length members) false) 0
-complement_none members = record {
-  size = length-replicate (length members) false;
-  before = λ q below. absurd (omega arith);
-  after = λ q _. elim (cases_lt q (length members)) [
-    | inl below ↦ get_or-replicate (length members) q false false below
-    | inr past ↦ get_or_past (replicate (length members) false) q false (omega (arith, length-replicate (length members) false))
-  ];
-}
-
-pub complement_in : (members others : List Bool) (p : ℕ) → IsComplementTo members others p → p < length members → has members p ≡ false → IsComplementTo members (set others p true) (p + 1)
-complement_in members others p h within out =
-    let same : length (set others p true) ≡ length others = simp length-set in
-    record {
-      size = same ∙ h.size;
-      before = λ q below. elim (cases_eq q p) [
-        | inl here ↦ rw (here, out) (get_or-set_same others p true false (omega (arith, h.size)))
-        | inr other ↦ get_or-set_other others p q true false other ∙ h.before q (omega arith)
-      ];
-      after = λ q past. get_or-set_other others p q true false (omega arith) ∙ h.after q (omega arith);
-    }
-
-pub complement_out : (members others : List Bool) (p : ℕ) → IsComplementTo members others p → has members p ≡ true → IsComplementTo members others (p + 1)
-complement_out members others p h inside = record {
-  size = h.size;
-  before = λ q below. elim (cases_eq q p) [
-    | inl here ↦ rw (here, inside) (h.after p (omega arith))
-    | inr other ↦ h.before q (omega arith)
-  ];
-  after = λ q past. h.after q (omega arith);
-}
 
 -- the places outside the net are in no set of its size
 pub has_within : (n : ℕ) (members : List Bool) (p : ℕ) → length members ≡ n → IsTrue (has members p) → p < n

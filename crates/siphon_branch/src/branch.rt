@@ -1,6 +1,5 @@
-ghost use Rattle.std.specs.Prelude.{◌≡◌, ◌↔◌, ◌<◌, ◌≤◌, ℕ, IsTrue, IfOk, length, slice_set, replicate, true, false, not};
+ghost use Rattle.std.specs.Prelude.{◌≡◌, ◌↔◌, ◌≤◌, IsTrue, IfOk, replicate, false};
 ghost use Rattle.net_values.specs.FlatNets.{net_of};
-ghost use Rattle.net_values.specs.PlaceSets.{has};
 ghost use Rattle.siphon_branch.specs.Classes.{HasSize, IsLive};
 
 use closed_sets::greatest_siphon;
@@ -41,22 +40,8 @@ impl Branch {
         requires { HasSize (net_of net.now).places self.now }
         ensures { IfOk result (λ live. IsTrue live ↔ IsLive (net_of net.now) self.now) }
     {
-        let mut left = complement(alloc, &self.avoids)?;
+        let mut left = self.avoids.complement(alloc)?;
         greatest_siphon(net, &mut left);
         Ok(self.contains.is_subset(&left))
     }
-}
-
-/// The places that are not in the set.
-fn complement(alloc: Global, set: &PlaceSet) -> Result<PlaceSet, NoMemory>
-    ensures size { IfOk result (λ others. length others ≡ length set.now) }
-    ensures members { IfOk result (λ others. (p : ℕ) → p < length set.now → has others p ≡ not (has set.now p)) }
-{
-    let mut others = PlaceSet::new(alloc, set.size())?;
-    for p in 0..set.size() {
-        if !set.contains(p) {
-            others.insert(p);
-        }
-    }
-    Ok(others)
 }

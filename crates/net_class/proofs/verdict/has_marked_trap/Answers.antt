@@ -5,9 +5,9 @@ use Rattle.closed_sets.specs.ClosedSets.{IsGreatestTrap}
 use Rattle.net_class.proofs.Verdicts.{greatest_marked}
 use Rattle.net_class.proofs.verdict.has_marked_trap.Goals as goal
 
-pub returns : goal.returns
-returns c =
+pub returns-clause-exact : goal.returns-clause-exact
+returns-clause-exact c =
     let net = net_of c.args.net.now in
     let left = c.greatest_trap.new.set in
     greatest_marked net (has c.args.set.now) (has left) c.is_marked.result
-    (subst (λ (set : List Bool). IsGreatestTrap net (has set) (has left)) c.in_ok-trap.ensures c.greatest_trap.ensures.greatest) c.is_marked.ensures
+    (subst (λ (set : List Bool). IsGreatestTrap net (has set) (has left)) c.copy_from.ensures c.greatest_trap.ensures.greatest) c.is_marked.ensures

@@ -11,8 +11,8 @@ use Rattle.pnml_write.proofs.document.canonical.Goals as goal
 
 pub returns-clause-exact : goal.returns-clause-exact
 returns-clause-exact c =
-    three_pieces c.new-markup.result c.push.new.self c.push_net.new.self c.push-2.new.self c.into_text.result HEAD.now (net_text c.args.document.now.net) (codes "</pnml>\n")
-    c.new-markup.ensures c.in_ok-push.ensures c.in_ok-push_net.ensures c.in_ok-push-2.ensures c.into_text.ensures
+    three_pieces c.new-text.result c.push.new.self c.push_net.new.text c.push-2.new.self HEAD.now (net_text c.args.document.now.net) (codes "</pnml>\n")
+    c.new-text.ensures c.in_ok-push.ensures.ok c.in_ok-push_net.ensures c.in_ok-push-2.ensures.ok
     ∙ canon_is c.args.document.now
 
 pub returns-clause-spells : goal.returns-clause-spells

@@ -5,4 +5,4 @@ use Rattle.report.proofs.net_texts.class_text.Goals as goal
 pub returns : goal.returns
 unfolding class_text
 returns c =
-    four_pieces _ _ _ _ _ _ _ _ _ _ c.new-lines.ensures c.in_ok-push_answer.ensures c.in_ok-push_answer-2.ensures c.in_ok-push_answer-3.ensures c.in_ok-push_answer-4.ensures c.into_text.ensures
+    four_pieces _ _ _ _ _ _ _ _ _ c.new-text.ensures c.in_ok-push_answer.ensures c.in_ok-push_answer-2.ensures c.in_ok-push_answer-3.ensures c.in_ok-push_answer-4.ensures

@@ -1,8 +1,0 @@
-use Rattle.std.proofs.Common.{◌≡◌, ◌++◌, take}
-use Rattle.std.specs.List.{flat_map}
-use Rattle.report.specs.Nodes.{id_of}
-use Rattle.report.specs.Texts.{semiflow_line}
-use Rattle.report.proofs.lines.Lines.push_semiflows.Given as goal
-
-abbrev pub invariant-loop-row : goal.invariant-loop-row
-invariant-loop-row l = l.self ≡ l.fn.self ++ flat_map (semiflow_line (id_of l.nodes l.net)) (take l.row-index l.rows)

@@ -1,8 +1,0 @@
-use Rattle.std.proofs.Common.{◌≡◌, ◌++◌, take}
-use Rattle.std.specs.List.{flat_map}
-use Rattle.report.specs.Nodes.{place_id}
-use Rattle.report.specs.Texts.{set_line}
-use Rattle.report.proofs.lines.Lines.push_sets.Given as goal
-
-abbrev pub invariant-loop-set : goal.invariant-loop-set
-invariant-loop-set l = l.self ≡ l.fn.self ++ flat_map (set_line (place_id l.net)) (take l.set-index l.sets)
