@@ -28,6 +28,18 @@ below_same (suc n) f g each =
     let last : f n ≡ g n = each n (omega arith) in
     omega arith
 
+-- a term with those before it is at most the sum
+pub below_part : (n p : ℕ) (f : ℕ → ℕ) → p < n → sum_below p f + f p ≤ sum_below n f
+below_part zero p f within = absurd (omega arith)
+below_part (suc n) p f within =
+    elim (cases_eq p n) [
+      | inl last ↦
+          let before : sum_below p f ≡ sum_below n f = ap (λ (k : ℕ). sum_below k f) last in
+          let here : f p ≡ f n = ap f last in
+          omega arith
+      | inr front ↦ let rest : sum_below p f + f p ≤ sum_below n f = below_part n p f (omega arith) in omega arith
+    ]
+
 pub below_one : (n q : ℕ) (f : ℕ → ℕ) → q < n → ((i : ℕ) → i < n → i ≢ q → f i ≡ 0) → sum_below n f ≡ f q
 below_one zero q f within others = absurd (omega arith)
 below_one (suc n) q f within others =

@@ -1,4 +1,5 @@
 pub mod Below
+pub mod Firing
 pub mod Entries
 pub mod TableLemmas
 pub mod SumLemmas

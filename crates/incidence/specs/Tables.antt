@@ -1,5 +1,6 @@
 -- Sparse tables of natural numbers: per column the list of its entries, each a row with an amount.
 use Rattle.std.specs.Prelude.{◌≡◌, ℕ, ◌+◌, ◌*◌, ◌^◌, ◌<◌, ◌≤◌, ◌==◌, if◌then◌else◌, List, [], length, All, sum_by, slice_index_or}
+use Rattle.net_values.specs.declared.limits.TheConstants.{MAX_ENTRIES}
 use Rattle.incidence.specs.declared.sparse.Amount.{Amount}
 use Rattle.incidence.specs.Matrix.{Matrix}
 
@@ -49,12 +50,12 @@ matrix_of tables = record {
   loss = at tables.losses;
 }
 
--- both tables have the same size, at most 4,096 by 4,096, and no entry is both positive and negative
+-- both tables have the same size, within the limits, and no entry is both positive and negative
 pub record IsIncidence (tables : Tables) : Type 0 where
   pub height : tables.losses.height ≡ tables.gains.height
   pub width : length tables.losses.lists ≡ length tables.gains.lists
-  pub rows : tables.gains.height ≤ 4096
-  pub columns : length tables.gains.lists ≤ 4096
+  pub rows : tables.gains.height ≤ MAX_ENTRIES
+  pub columns : length tables.gains.lists ≤ MAX_ENTRIES
   pub apart : (i j : ℕ) → at tables.gains i j * at tables.losses i j ≡ 0
 
 -- the amounts of a column's entries are added at a row, each at the column that its entry names

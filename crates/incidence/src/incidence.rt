@@ -10,7 +10,7 @@ use net_values::{FlatNet, NoMemory, Vector};
 use std::alloc::Global;
 use std::marker::Model;
 
-/// A matrix of whole numbers with at most 4,096 rows and 4,096 columns, which keeps its nonzero entries
+/// A matrix of whole numbers with at most `MAX_ENTRIES` rows and columns, which keeps its nonzero entries
 /// only. Contracts see the table of the positive entries and that of the negated negative ones.
 #[derive(Drop)]
 pub struct Incidence {
@@ -49,7 +49,7 @@ impl Incidence {
         })
     }
 
-    /// The number of rows, which is at most 4,096.
+    /// The number of rows, which is at most `MAX_ENTRIES`.
     pub fn rows(&self) -> usize
         ensures value { result ≡ (matrix_of self.now).rows }
         ensures limits { IsIncidence self.now }
@@ -57,7 +57,7 @@ impl Incidence {
         self.gains.height()
     }
 
-    /// The number of columns, which is at most 4,096.
+    /// The number of columns, which is at most `MAX_ENTRIES`.
     pub fn columns(&self) -> usize
         ensures value { result ≡ (matrix_of self.now).columns }
         ensures limits { IsIncidence self.now }

@@ -4,6 +4,7 @@
 
 mod flat_sums;
 mod incidence;
+mod laws;
 mod side;
 mod sparse;
 #[cfg(test)]
@@ -12,4 +13,5 @@ mod wide_sum;
 
 pub use flat_sums::net_sums;
 pub use incidence::Incidence;
+pub use laws::{semiflows_bound_places, weighted_tokens_stay};
 pub use wide_sum::{WideSum, add_product};

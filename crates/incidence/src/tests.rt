@@ -1,28 +1,13 @@
 ghost use Rattle.std.specs.Prelude.{◌≡◌, ◌≤ℤ◌, IfOk, pos, length};
 
 use super::*;
-use net_values::{FlatNet, NoMemory, Text, Vector};
+use net_values::{NoMemory, Vector};
+use small_nets::{Arc, net_with};
 use std::alloc::Global;
-use std::process::Abort;
 use std::test::Fail;
 
 /// A transition that takes 3 from the first place and gives it 1 back, and gives the second place 2^63.
-fn exchange(rt: &impl Abort, alloc: Global) -> Result<FlatNet, NoMemory> {
-    let mut net = FlatNet::new(alloc);
-    for _ in 0..2 {
-        assert!(rt; net.places() < 2);
-        net.add_place(Text::new(alloc), 0)?;
-    }
-    assert!(rt; net.transitions() == 0);
-    net.add_transition(Text::new(alloc))?;
-    assert!(rt; net.places() == 2 && net.transitions() == 1 && net.arcs() == 0);
-    net.add_input(0, 0, 3)?;
-    assert!(rt; net.places() == 2 && net.transitions() == 1 && net.arcs() == 1);
-    net.add_output(0, 0, 1)?;
-    assert!(rt; net.places() == 2 && net.transitions() == 1 && net.arcs() == 2);
-    net.add_output(0, 1, 1 << 63)?;
-    Ok(net)
-}
+const EXCHANGE: &[Arc] = &[(0, 0, -3), (0, 0, 1), (1, 0, 1 << 63)];
 
 /// The vector with these two entries.
 fn pair(alloc: Global, first: i128, second: i128) -> Result<Vector, NoMemory>
@@ -39,7 +24,7 @@ fn pair(alloc: Global, first: i128, second: i128) -> Result<Vector, NoMemory>
 #[test]
 fn sums_are_exact_up_to_the_limit(rt: HostRuntime) -> Result<(), Fail> {
     let alloc = rt.alloc();
-    let net = exchange(&rt, alloc)?;
+    let net = net_with(alloc, &[0; 2], 1, EXCHANGE)?;
     assert!(rt; net.places() == 2 && net.transitions() == 1);
     let matrix = Incidence::of(alloc, &net)?;
     assert!(rt; matrix.rows() == 2 && matrix.columns() == 1);

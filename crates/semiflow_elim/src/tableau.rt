@@ -9,7 +9,7 @@ use crate::fault::ElimFault;
 use crate::row_arithmetic::RowFault;
 use crate::signs::{candidate_total, row_sums};
 use incidence::Incidence;
-use net_values::{NoMemory, Rows, Vector};
+use net_values::{MAX_ENTRIES, NoMemory, Rows, Vector};
 use std::alloc::Global;
 use std::marker::Model;
 
@@ -127,7 +127,7 @@ fn next_rows(
 
 /// The rows with a 1 at one position each and 0 elsewhere.
 fn unit_rows(alloc: Global, count: usize) -> Result<Rows, NoMemory>
-    requires { count ≤ 4096 }
+    requires { count ≤ MAX_ENTRIES }
     ensures { IfOk result (λ rows. AreUnits count rows count) }
 {
     let mut rows = Rows::new(alloc);

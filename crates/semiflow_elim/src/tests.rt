@@ -2,41 +2,12 @@ mod named_nets;
 
 use super::*;
 use incidence::Incidence;
-use named_nets::{Arc, Entry, NamedNet, OF_PLACES, OF_TRANSITIONS};
-use net_values::{FlatNet, NoMemory, Rows, Text};
+use named_nets::{Entry, NamedNet, OF_PLACES, OF_TRANSITIONS};
+use net_values::Rows;
+use small_nets::net_with;
 use std::alloc::Global;
 use std::process::Abort;
 use std::test::Fail;
-
-/// The net of this many places and transitions and these arcs.
-fn net(
-    rt: &impl Abort,
-    alloc: Global,
-    places: usize,
-    transitions: usize,
-    arcs: &[Arc],
-) -> Result<FlatNet, NoMemory> {
-    let mut net = FlatNet::new(alloc);
-    for _ in 0..places {
-        assert!(rt; net.places() < 2048);
-        net.add_place(Text::new(alloc), 0)?;
-    }
-    for _ in 0..transitions {
-        assert!(rt; net.transitions() < 2048);
-        net.add_transition(Text::new(alloc))?;
-    }
-    for (place, transition, weight) in arcs {
-        let amount = weight.unsigned_abs();
-        assert!(rt; *place < net.places() && *transition < net.transitions());
-        assert!(rt; amount >= 1 && amount < 1 << 64 && net.arcs() < 65536);
-        if *weight > 0 {
-            net.add_output(*transition, *place, amount as u64)?;
-        } else {
-            net.add_input(*place, *transition, amount as u64)?;
-        }
-    }
-    Ok(net)
-}
 
 /// Whether the list has this many semiflows with these entries and 0 at every other place.
 fn is_list(rows: &Rows, count: usize, entries: &[Entry]) -> bool {
@@ -71,11 +42,11 @@ fn has_answer(rt: &impl Abort, matrix: &Incidence, named: &NamedNet, alloc: Glob
 fn the_named_nets_have_these_minimal_semiflows(rt: HostRuntime) -> Result<(), Fail> {
     let alloc = rt.alloc();
     for named in &OF_PLACES {
-        let net = net(&rt, alloc, named.places, named.transitions, named.arcs)?;
+        let net = net_with(alloc, &[0; 5][..named.places], named.transitions, named.arcs)?;
         has_answer(&rt, &Incidence::of(alloc, &net)?, named, alloc);
     }
     for named in &OF_TRANSITIONS {
-        let net = net(&rt, alloc, named.places, named.transitions, named.arcs)?;
+        let net = net_with(alloc, &[0; 5][..named.places], named.transitions, named.arcs)?;
         let turned = Incidence::of(alloc, &net)?.transpose(alloc)?;
         has_answer(&rt, &turned, named, alloc);
     }
@@ -94,7 +65,7 @@ fn a_fan_of_ten_has_a_hundred_semiflows(rt: HostRuntime) -> Result<(), Fail> {
         entries.push((number, 9 - number / 10, 1))?;
         entries.push((number, 19 - number % 10, 1))?;
     }
-    let fan = net(&rt, alloc, 20, 1, arcs.as_slice())?;
+    let fan = net_with(alloc, &[0; 20], 1, arcs.as_slice())?;
     let matrix = Incidence::of(alloc, &fan)?;
     match minimal_semiflows(alloc, &matrix, 100) {
         Ok(rows) => assert!(rt; is_list(&rows, 100, entries.as_slice())),

@@ -1,9 +1,6 @@
 //! Small nets with the minimal semiflows of their places or their transitions.
 use crate::ElimFault;
-
-/// An arc of a place and a transition. It leads to the place where its weight is positive, and takes from
-/// it where that is negative.
-pub(super) type Arc = (usize, usize, i128);
+use small_nets::Arc;
 
 /// An entry of a semiflow: the number of the semiflow in the list, the number of the place or transition,
 /// and the entry there.

@@ -1,0 +1,2 @@
+pub mod LeastBound
+pub mod Listed
