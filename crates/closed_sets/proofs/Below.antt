@@ -31,6 +31,11 @@ pub not_false : (b : Bool) → IsTrue (not b) → b ≡ false
 not_false true holds = sym holds
 not_false false holds = refl
 
+pub same_bools : (a b : Bool) → (IsTrue a → IsTrue b) → (IsTrue b → IsTrue a) → a ≡ b
+same_bools true b to from = sym (to refl)
+same_bools false true to from = from refl
+same_bools false false to from = refl
+
 pub any_at : (n : ℕ) (f : ℕ → Bool) (k : ℕ) → k < n → IsTrue (f k) → IsTrue (any_below n f)
 any_at zero f k below passes = absurd (omega arith)
 any_at (suc n) f k below passes =

@@ -1,14 +1,29 @@
--- A trap that has a token keeps one: the transition that takes it has an input place in the trap, so an
--- output place in it, which it fills. At a dead marking each transition has an input place with fewer
+-- A siphon without a token gets none: a transition that gives it one has an input place in it, which is empty,
+-- so it isn't enabled. A trap that has a token keeps one: the transition that takes it has an input place in
+-- the trap, so an output place in it, which it fills. At a dead marking each transition has an input place with fewer
 -- tokens than it takes, which in an ordinary net is empty; so the empty places are a siphon, and no trap in
 -- it is marked.
-use Rattle.std.proofs.Common.{◌≡◌, ℕ, ◌<◌, [], ◌∷◌, Bool, ltb, inl, inr, arith}
+use Rattle.std.proofs.Common.{◌≡◌, ◌∙◌, ℕ, ◌<◌, [], ◌∷◌, Bool, ltb, inl, inr, arith}
 use Rattle.std.proofs.lemmas.Bool.{cases_lt, ltb-true, ltb-false, eq-eqb, eqb-true}
 use Rattle.net_values.specs.Net.{Net}
 use Rattle.net_values.specs.TokenGame.{IsEnabled, after}
-use Rattle.closed_sets.specs.ClosedSets.{any_below, IsTrap}
-use Rattle.closed_sets.specs.Commoner.{IsMarked, empty_places, TrapsStayMarked, DeadEmptiesASiphon, CommonerExcludesDead}
+use Rattle.closed_sets.specs.ClosedSets.{any_below, IsSiphon, IsTrap}
+use Rattle.closed_sets.specs.Commoner.{IsMarked, IsUnmarked, empty_places, EmptySiphonsStayEmpty, TrapsStayMarked, DeadEmptiesASiphon, CommonerExcludesDead}
 use Rattle.closed_sets.proofs.Below.{cases_bool, any_at, any_from, none_at, pair_at, pair_from}
+
+siphon_kept : (net : Net) (S : ℕ → Bool) (M : ℕ → ℕ) (t : ℕ) → IsSiphon net S → t < net.transitions → IsEnabled net M t → IsUnmarked net M S → IsUnmarked net (after net M t) S
+siphon_kept net S M t siphon below enabled empty p here member =
+    elim (cases_lt 0 (net.post p t)) [
+      | inl gives ↦
+          let takes = pair_from net.places S (λ q. net.pre q t) (siphon t below (pair_at net.places S (λ q. net.post q t) p here member gives)) in
+          absurd (omega (arith, takes.3, enabled takes.0 takes.1, empty takes.0 takes.1 takes.2))
+      | inr none ↦ omega (arith, empty p here member)
+    ]
+
+pub siphon_along : (net : Net) → EmptySiphonsStayEmpty net
+siphon_along net S M M' [] siphon empty reached = λ p here member. reached p here ∙ empty p here member
+siphon_along net S M M' (t ∷ ts) siphon empty reached =
+    siphon_along net S (after net M t) M' ts siphon (siphon_kept net S M t siphon reached.0 reached.1 empty) reached.2
 
 trap_kept : (net : Net) (S : ℕ → Bool) (M : ℕ → ℕ) (t : ℕ) → IsTrap net S → t < net.transitions → IsMarked net M S → IsMarked net (after net M t) S
 trap_kept net S M t trap below marked =

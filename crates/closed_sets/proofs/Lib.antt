@@ -1,7 +1,10 @@
 pub mod Below
 pub mod Firing
+pub mod Firsts
+pub mod GreatestSiphons
 pub mod Outside
 pub mod Covers
 pub mod Passes
 pub mod SmallerSiphons
+pub mod Traps
 pub mod Unions

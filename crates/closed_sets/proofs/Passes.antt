@@ -14,12 +14,7 @@ use Rattle.net_values.specs.PlaceSets.{has}
 use Rattle.closed_sets.specs.ClosedSets.{any_below, has_input_in, has_output_in, IsSiphon, IsGreatestSiphon}
 use Rattle.closed_sets.specs.Growth.{is_open, IsFirst}
 use Rattle.closed_sets.specs.Passes.{Shrinks, IsFewer, IsSettled, IsSettledAt, members}
-use Rattle.closed_sets.proofs.Below.{cases_bool, apart, both, both_left, both_right, not_true, not_false, pair_at, pair_from}
-
-same_bools : (a b : Bool) → (IsTrue a → IsTrue b) → (IsTrue b → IsTrue a) → a ≡ b
-same_bools true b to from = sym (to refl)
-same_bools false true to from = from refl
-same_bools false false to from = refl
+use Rattle.closed_sets.proofs.Below.{cases_bool, apart, same_bools, both, both_left, both_right, not_true, not_false, pair_at, pair_from}
 
 -- whether an entry's place is in the set, read off the matrix
 pub meets_is : (n : ℕ) (w : ℕ → ℕ) (entries : List WeightedPlace) (S : ℕ → Bool) → Lists n w entries → list_any (λ entry. S entry.place) entries ≡ any_below n (λ p. S p && ltb 0 (w p))

@@ -39,6 +39,10 @@ pub record IsGreatestSiphon (net : Net) (U G : ℕ → Bool) : Type 0 where
   pub within : IsWithin net G U
   pub greatest : (S : ℕ → Bool) → IsSiphon net S → IsWithin net S U → IsWithin net S G
 
+-- each set has a greatest siphon in it
+abbrev pub EachSetHasGreatest : Net → Type 0
+EachSetHasGreatest net = (U : ℕ → Bool) → (G : ℕ → Bool) × IsGreatestSiphon net U G
+
 -- the greatest trap in a set
 pub record IsGreatestTrap (net : Net) (U G : ℕ → Bool) : Type 0 where
   pub trap : IsTrap net G
@@ -50,6 +54,12 @@ pub record IsMinimalSiphon (net : Net) (S : ℕ → Bool) : Type 0 where
   pub siphon : IsSiphon net S
   pub nonempty : IsNonempty net S
   pub least : (R : ℕ → Bool) → IsSiphon net R → IsNonempty net R → IsWithin net R S → IsWithin net S R
+
+-- a nonempty trap that has no smaller nonempty trap in it
+pub record IsMinimalTrap (net : Net) (S : ℕ → Bool) : Type 0 where
+  pub trap : IsTrap net S
+  pub nonempty : IsNonempty net S
+  pub least : (R : ℕ → Bool) → IsTrap net R → IsNonempty net R → IsWithin net R S → IsWithin net S R
 
 -- a nonempty siphon in the set lacks the place
 abbrev pub HasSiphonWithout : Net → (ℕ → Bool) → ℕ → Type 0

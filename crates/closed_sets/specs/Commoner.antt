@@ -1,6 +1,6 @@
 -- Commoner's condition (M. Hack, Analysis of production schemata by Petri nets, MIT, 1972; T. Murata, Petri
 -- nets: properties, analysis and applications, Proceedings of the IEEE 77, 1989).
-use Rattle.std.specs.Prelude.{ℕ, ◌<◌, ◌≤◌, ◌==◌, Bool, IsTrue, ◌&&◌, nat_lt, List}
+use Rattle.std.specs.Prelude.{◌≡◌, ℕ, ◌<◌, ◌≤◌, ◌==◌, Bool, IsTrue, ◌&&◌, nat_lt, List}
 use Rattle.net_values.specs.Net.{Net}
 use Rattle.net_values.specs.TokenGame.{Reach, IsReachable, IsDead}
 use Rattle.closed_sets.specs.ClosedSets.{any_below, IsSiphon, IsTrap, IsWithin, IsNonempty}
@@ -27,6 +27,14 @@ MeetsCommoner net = (S : ℕ → Bool) → IsSiphon net S → IsNonempty net S �
 -- no reachable marking is dead
 abbrev pub IsDeadlockFree : Net → Type 0
 IsDeadlockFree net = (M : ℕ → ℕ) → IsReachable net M → IsDead net M → ⊥
+
+-- no place of the set has a token
+abbrev pub IsUnmarked : Net → (ℕ → ℕ) → (ℕ → Bool) → Type 0
+IsUnmarked net M S = (p : ℕ) → p < net.places → IsTrue (S p) → M p ≡ 0
+
+-- a siphon without a token stays so along any firing list
+abbrev pub EmptySiphonsStayEmpty : Net → Type 0
+EmptySiphonsStayEmpty net = (S : ℕ → Bool) (M M' : ℕ → ℕ) (ts : List ℕ) → IsSiphon net S → IsUnmarked net M S → Reach net M ts M' → IsUnmarked net M' S
 
 -- a trap that is marked stays marked along any firing list
 abbrev pub TrapsStayMarked : Net → Type 0

@@ -1,9 +1,9 @@
 -- How a siphon grows from a set in it, by a fixed order of the places and the transitions: while some
 -- transition has an output place in the set and no input place in it, the lowest such transition is taken,
 -- and the lowest of its input places that the siphon has is added. The set so far always lies in the siphon.
-use Rattle.std.specs.Prelude.{◌≡◌, ℕ, ◌<◌, Bool, false, IsTrue, ◌&&◌, ◌||◌, ◌==◌, not, ◌⊎◌, nat_lt}
-use Rattle.net_values.specs.Net.{Net}
-use Rattle.closed_sets.specs.ClosedSets.{has_input_in, has_output_in, IsSiphon, IsWithin, IsNonempty}
+use Rattle.std.specs.Prelude.{◌≡◌, ◌↔◌, ℕ, ◌<◌, Bool, false, IsTrue, ◌&&◌, ◌||◌, ◌==◌, not, ◌⊎◌, nat_lt}
+use Rattle.net_values.specs.Net.{Net, reversed}
+use Rattle.closed_sets.specs.ClosedSets.{has_input_in, has_output_in, IsSiphon, IsTrap, IsWithin, IsNonempty, IsMinimalSiphon, IsMinimalTrap}
 
 -- the lowest number below the bound that passes the test
 pub record IsFirst (bound : ℕ) (test : ℕ → Bool) (first : ℕ) : Type 0 where
@@ -39,7 +39,36 @@ pub record IsGrown (net : Net) (S : ℕ → Bool) : Type 0 where
   pub first : IsFirst net.places S lowest
   pub grows : GrowsWhole net S (only_place lowest)
 
--- a grown trap is a grown siphon of the net with every arc turned round
+-- The growth of a trap has inputs and outputs exchanged: the lowest transition with an input place in the
+-- set and no output place in it is taken, and the lowest of its output places that the trap has is added.
+
+-- the transition has an input place in the set and no output place in it
+abbrev pub is_leaving : Net → (ℕ → Bool) → ℕ → Bool
+is_leaving net A t = has_input_in net A t && not (has_output_in net A t)
+
+-- an output place of the transition in the set
+abbrev pub is_output_in : Net → (ℕ → Bool) → ℕ → ℕ → Bool
+is_output_in net S t p = S p && nat_lt 0 (net.post p t)
+
+-- the growth of the trap from a set in it ends with the whole of it
+pub data TrapGrowsWhole (net : Net) (S : ℕ → Bool) : (ℕ → Bool) → Type 0 where
+  whole_trap : {A : ℕ → Bool} → IsTrap net A → IsWithin net S A → TrapGrowsWhole net S A
+  more_trap : {A : ℕ → Bool} (t p : ℕ) → IsFirst net.transitions (is_leaving net A) t → IsFirst net.places (is_output_in net S t) p → TrapGrowsWhole net S (with_place A p) → TrapGrowsWhole net S A
+
+-- a trap whose growth from its lowest place ends with the whole of it; such a trap isn't empty
+pub record IsGrownTrap (net : Net) (S : ℕ → Bool) : Type 0 where
+  pub trap : IsTrap net S
+  pub lowest : ℕ
+  pub first : IsFirst net.places S lowest
+  pub grows : TrapGrowsWhole net S (only_place lowest)
+
+-- the traps of a net are the siphons of the net with every arc turned round, the minimal traps the minimal
+-- siphons, and the grown traps the grown siphons
+pub record TrapsAreSiphonsReversed (net : Net) (S : ℕ → Bool) : Type 0 where
+  pub trap : IsTrap net S ↔ IsSiphon (reversed net) S
+  pub minimal : IsMinimalTrap net S ↔ IsMinimalSiphon (reversed net) S
+  pub grown : IsGrownTrap net S ↔ IsGrown (reversed net) S
+
 -- the set belongs to the class that contains the one set and avoids the other
 pub record Belongs (net : Net) (contains avoids S : ℕ → Bool) : Type 0 where
   pub has_all : IsWithin net contains S

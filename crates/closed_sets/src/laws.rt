@@ -1,22 +1,34 @@
-ghost use Rattle.std.specs.Prelude.{◌↔◌, ◌||◌, ℕ, Bool};
-ghost use Rattle.net_values.specs.Net.{Net, reversed};
-ghost use Rattle.closed_sets.specs.ClosedSets.{IsSiphon, IsTrap};
+ghost use Rattle.std.specs.Prelude.{◌||◌, ℕ, Bool};
+ghost use Rattle.net_values.specs.Net.{Net};
+ghost use Rattle.closed_sets.specs.ClosedSets.{EachSetHasGreatest, IsSiphon};
 ghost use Rattle.closed_sets.specs.MinimalSets.{MinimalSetsCover};
-ghost use Rattle.closed_sets.specs.Commoner.{TrapsStayMarked, DeadEmptiesASiphon, CommonerExcludesDead};
+ghost use Rattle.closed_sets.specs.Commoner.{CommonerExcludesDead, DeadEmptiesASiphon, EmptySiphonsStayEmpty, TrapsStayMarked};
+ghost use Rattle.closed_sets.specs.Growth.{TrapsAreSiphonsReversed};
 
-/// The union of two siphons is a siphon, so each set has a greatest siphon in it (Murata 1989).
+/// The union of two siphons is a siphon (Murata 1989).
 pub fn unions_of_siphons_are_siphons()
     ensures { (net : Net) (S R : ℕ → Bool) → IsSiphon net S → IsSiphon net R → IsSiphon net (λ p. S p || R p) }
 {}
 
-/// Traps are the siphons of the net with every arc turned round.
+/// Each set has a greatest siphon in it.
+pub fn each_set_has_a_greatest_siphon()
+    ensures { (net : Net) → EachSetHasGreatest net }
+{}
+
+/// The traps of a net are the siphons of the net with every arc turned round, and so are the minimal and the
+/// grown ones.
 pub fn traps_are_siphons_reversed()
-    ensures { (net : Net) (S : ℕ → Bool) → IsTrap net S ↔ IsSiphon (reversed net) S }
+    ensures { (net : Net) (S : ℕ → Bool) → TrapsAreSiphonsReversed net S }
 {}
 
 /// The list of all minimal siphons has one in every nonempty siphon.
 pub fn minimal_siphons_are_in_all()
     ensures { (net : Net) → MinimalSetsCover net }
+{}
+
+/// A siphon without a token stays so along any firing list (Murata 1989).
+pub fn empty_siphons_stay_empty()
+    ensures { (net : Net) → EmptySiphonsStayEmpty net }
 {}
 
 /// A trap that is marked stays marked along any firing list (Murata 1989).

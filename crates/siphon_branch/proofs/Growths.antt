@@ -2,42 +2,13 @@
 -- determined, so a siphon is grown in a class exactly where it is the contained set itself, or is grown in
 -- the one part whose place is that input place.
 use Rattle.std.proofs.Common.{◌≡◌, refl, sym, subst, ℕ, ◌<◌, ◌==◌, ◌||◌, ◌⊎◌, Bool, true, false, IsTrue, ltb, inl, inr, arith}
-use Rattle.std.proofs.lemmas.Bool.{cases_lt, true≢false, false≢true, eq-eqb, eqb-true, lt-ltb, ltb-true}
+use Rattle.std.proofs.lemmas.Bool.{or_cases, or_left, or_right, cases_lt, true≢false, false≢true, eq-eqb, eqb-true, lt-ltb, ltb-true}
 use Rattle.net_values.specs.Net.{Net}
 use Rattle.closed_sets.specs.ClosedSets.{IsSiphon, IsWithin}
 use Rattle.closed_sets.specs.Growth.{IsFirst, is_open, is_input_in, with_place, Belongs, GrowsWhole, whole, more}
 use Rattle.closed_sets.proofs.Below.{cases_bool, apart, both, both_left, both_right}
+use Rattle.closed_sets.proofs.Firsts.{first_same}
 use Rattle.closed_sets.proofs.Passes.{closed_from_siphon}
-
-pub first_same : (n : ℕ) (test : ℕ → Bool) (a b : ℕ) → IsFirst n test a → IsFirst n test b → a ≡ b
-first_same n test a b one other =
-    elim (cases_lt a b) [
-      | inl below ↦ absurd (apart (test a) one.passes (other.before a below))
-      | inr above ↦ elim (cases_lt b a) [
-        | inl below ↦ absurd (apart (test b) other.passes (one.before b below))
-        | inr equal ↦ omega arith
-      ]
-    ]
-
-pub either : (a b : Bool) → IsTrue (a || b) → IsTrue a ⊎ IsTrue b
-either true b some = inl refl
-either false b some = inr some
-
-pub or_left : (a b : Bool) → IsTrue a → IsTrue (a || b)
-or_left true b holds = refl
-or_left false b holds = absurd (false≢true holds)
-
-pub or_right : (a b : Bool) → IsTrue b → IsTrue (a || b)
-or_right true b holds = refl
-or_right false b holds = holds
-
-pub neither_left : (a b : Bool) → a || b ≡ false → a ≡ false
-neither_left true b none = absurd (true≢false none)
-neither_left false b none = refl
-
-pub neither_right : (a b : Bool) → a || b ≡ false → b ≡ false
-neither_right true b none = absurd (true≢false none)
-neither_right false b none = none
 
 -- the growth from an equal set
 pub same_growth : (net : Net) (S A A' : ℕ → Bool) → ((p : ℕ) → A p ≡ A' p) → GrowsWhole net S A → GrowsWhole net S A'
@@ -91,11 +62,11 @@ module _ (net : Net) (A B N S : ℕ → Bool) (t p : ℕ) (opens : IsFirst net.t
   pub to_part : Belongs net A B S → GrowsWhole net S A → IsTrue (S p) → ((q : ℕ) → q < net.places → IsTrue (N q) → S q ≡ false) → Belongs net (with_place A p) Avoids S × GrowsWhole net S (with_place A p)
   to_part belongs grows member none = (
     record {
-      has_all = λ q here inside. elim (either (q == p) (A q) inside) [
+      has_all = λ q here inside. elim (or_cases (q == p) (A q) inside) [
         | inl equal ↦ subst (λ (r : ℕ). IsTrue (S r)) (sym (eqb-true q p equal)) member
         | inr old ↦ belongs.has_all q here old
       ];
-      has_none = λ q here out. elim (either (B q) (N q) out) [ inl old ↦ belongs.has_none q here old | inr new ↦ none q here new ];
+      has_none = λ q here out. elim (or_cases (B q) (N q) out) [ inl old ↦ belongs.has_none q here old | inr new ↦ none q here new ];
     },
     growth_next net S A t p opens (is_first member none) grows,
   )

@@ -6,9 +6,10 @@ use Rattle.net_values.specs.Net.{Net}
 use Rattle.closed_sets.specs.ClosedSets.{any_below, IsWithin}
 use Rattle.closed_sets.specs.Growth.{only_place}
 use Rattle.closed_sets.proofs.Below.{cases_bool, apart, not_false, any_at, any_from}
+use Rattle.closed_sets.proofs.Firsts.{first_of}
 use Rattle.closed_sets.proofs.Outside.{outside}
 use Rattle.siphon_branch.specs.Laws.{LiveClassesHaveGrown}
-use Rattle.siphon_branch.proofs.MinimalGrown.{first_of, grows_in}
+use Rattle.siphon_branch.proofs.MinimalGrown.{grows_in}
 
 avoided_not : (net : Net) (avoids U S : ℕ → Bool) → IsWithin net U (λ p. not (avoids p)) → IsWithin net S U → (p : ℕ) → p < net.places → IsTrue (avoids p) → S p ≡ false
 avoided_not net avoids U S outside' within p below avoided =

@@ -2,29 +2,14 @@
 -- siphon, and each step leaves one place less outside. A minimal siphon contains what grows from its lowest
 -- place, and so is grown.
 use Rattle.std.proofs.Common.{◌≡◌, refl, sym, subst, ℕ, zero, suc, ◌<◌, ◌==◌, ◌⊎◌, Bool, false, IsTrue, ltb, inl, inr, arith}
-use Rattle.std.proofs.lemmas.Bool.{cases_eq, eq-eqb, eqb-true, ltb-true}
+use Rattle.std.proofs.lemmas.Bool.{or_cases, or_left, or_right, cases_eq, eq-eqb, eqb-true, ltb-true}
 use Rattle.net_values.specs.Net.{Net}
 use Rattle.closed_sets.specs.ClosedSets.{has_input_in, has_output_in, IsSiphon, IsWithin, IsMinimalSiphon}
 use Rattle.closed_sets.specs.Growth.{IsFirst, is_open, is_input_in, with_place, only_place, GrowsWhole, whole, more, IsGrown}
 use Rattle.closed_sets.proofs.Below.{cases_bool, apart, both, both_left, both_right, not_false, any_at, any_from, pair_at, pair_from}
+use Rattle.closed_sets.proofs.Firsts.{first_of}
 use Rattle.closed_sets.proofs.Outside.{outside, outside_lt}
 use Rattle.closed_sets.proofs.Passes.{siphon_from_closed}
-use Rattle.siphon_branch.proofs.Growths.{either, or_left, or_right}
-
--- the lowest number that passes, or none does
-pub first_of : (n : ℕ) (test : ℕ → Bool) → ((k : ℕ) × IsFirst n test k) ⊎ ((k : ℕ) → k < n → test k ≡ false)
-first_of zero test = inr (λ k below. absurd (omega arith))
-first_of (suc n) test =
-    elim (first_of n test) [
-      | inl found ↦ inl (found.0, record { below = omega (arith, found.1.below); passes = found.1.passes; before = found.1.before })
-      | inr none ↦ elim (cases_bool (test n)) [
-        | inl passes ↦ inl (n, record { below = omega arith; passes = passes; before = none })
-        | inr fails ↦ inr (λ k below. elim (cases_eq k n) [
-          | inl same ↦ subst (λ (m : ℕ). test m ≡ false) (sym same) fails
-          | inr other ↦ none k (omega arith)
-        ])
-      ]
-    ]
 
 pub record GrowsIn (net : Net) (U A : ℕ → Bool) : Type 0 where
   pub S : ℕ → Bool
@@ -56,7 +41,7 @@ grows_in (suc steps) net U A siphon within few =
                 ] in
                 let less = outside_lt net.places A (with_place A p) p (λ k _ inside. or_right (k == p) (A k) inside) input.1.below out (or_left (p == p) (A p) (eq-eqb p p refl)) in
                 let rest = grows_in steps net U (with_place A p) siphon
-                (λ q below inside. elim (either (q == p) (A q) inside) [
+                (λ q below inside. elim (or_cases (q == p) (A q) inside) [
                   | inl same ↦ subst (λ (r : ℕ). IsTrue (U r)) (sym (eqb-true q p same)) member
                   | inr old ↦ within q below old
                 ]) (omega arith) in

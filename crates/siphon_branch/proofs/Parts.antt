@@ -5,7 +5,7 @@
 use Rattle.std.proofs.Common.{◌≡◌, ◌↔◌, ◌⊎◌, refl, sym, ap, ◌∙◌, subst, ℕ, ◌+◌, ◌-◌, ◌<◌, ◌≤◌, ◌==◌, ◌||◌, List, [], ◌∷◌, ◌++◌, Bool, true, false, IsTrue, eqb, cond, length, get_or, set, take, length-set, inl, inr, arith}
 use Rattle.std.specs.List.{list_any}
 use Rattle.std.proofs.Math.Bool.{or-false}
-use Rattle.std.proofs.lemmas.Bool.{cases_lt, cases_eq, true≢false, false≢true, eq-eqb, eqb-true}
+use Rattle.std.proofs.lemmas.Bool.{or_cases, or_left, or_right, cases_lt, cases_eq, true≢false, false≢true, eq-eqb, eqb-true}
 use Rattle.std.proofs.lemmas.List.{get_or-set_same, get_or-set_other, set-set, set-get_or, get_or-take, length-take-le, get_or_default, take_all, same_lists}
 use Rattle.std.proofs.lemmas.List.Folds.{Any-from_list_any, list_any_at, list_any_more}
 use Rattle.std.proofs.lemmas.List.Sums.{sum_by-set, count_by-le-length}
@@ -16,12 +16,12 @@ use Rattle.net_values.specs.PlaceSets.{has}
 use Rattle.closed_sets.specs.ClosedSets.{has_input_in, has_output_in, IsSiphon}
 use Rattle.closed_sets.specs.Growth.{IsFirst, is_open, with_place, Belongs, whole}
 use Rattle.closed_sets.specs.Passes.{members}
-use Rattle.closed_sets.proofs.Below.{cases_bool, apart, both_left, both_right, not_false, pair_at, pair_from}
+use Rattle.closed_sets.proofs.Below.{cases_bool, apart, same_bools, both_left, both_right, not_false, pair_at, pair_from}
 use Rattle.closed_sets.proofs.Passes.{meets_is}
 use Rattle.siphon_branch.specs.declared.branch.Branch.{Branch}
 use Rattle.siphon_branch.specs.Classes.{HasSize, IsLive}
 use Rattle.siphon_branch.specs.Met.{Adds, AddsSome, Meets, Overruns, IsGrownFrom}
-use Rattle.siphon_branch.proofs.Growths.{either, or_left, or_right, same_growth, growth_over, from_part, to_part}
+use Rattle.siphon_branch.proofs.Growths.{same_growth, growth_over, from_part, to_part}
 use Rattle.siphon_branch.proofs.Lists.{adds_on, some_on, adds_same, some_within, adds_nothing, adds_one, adds_some}
 
 abbrev pub nowhere : WeightedPlace
@@ -55,7 +55,7 @@ none_met [] S none q listed = absurd (false≢true listed)
 none_met (x ∷ xs) S none q listed =
     elim (cases_bool (S x.place)) [
       | inl member ↦ absurd (apart _ (or_left (S x.place) (list_any (λ entry. S entry.place) xs) member) none)
-      | inr out ↦ elim (either (x.place == q) (list_any (λ entry. entry.place == q) xs) listed) [
+      | inr out ↦ elim (or_cases (x.place == q) (list_any (λ entry. entry.place == q) xs) listed) [
         | inl here ↦ subst (λ (r : ℕ). S r ≡ false) (eqb-true x.place q here) out
         | inr later ↦ none_met xs S (sym (or_skip (S x.place) (list_any (λ entry. S entry.place) xs) out) ∙ none) q later
       ]
@@ -274,11 +274,6 @@ dead_meets net class limit met dead room = record {
   adds = adds_nothing (IsGrownFrom net class.contains class.avoids) met (λ list grown. dead (has list, grown.siphon, grown.belongs));
   room = room;
 }
-
-pub same_bools : (a b : Bool) → (IsTrue a → IsTrue b) → (IsTrue b → IsTrue a) → a ≡ b
-same_bools true b to from = sym (to refl)
-same_bools false true to from = from refl
-same_bools false false to from = refl
 
 -- where the contained set is a siphon it only is grown in a live class
 pub leaf_adds : (net : Net) (class : Branch) (met : List (List Bool)) → HasSize net.places class → IsLive net class → IsSiphon net (has class.contains) → Adds (IsGrownFrom net class.contains class.avoids) met (met ++ class.contains ∷ [])

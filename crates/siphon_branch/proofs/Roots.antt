@@ -2,19 +2,20 @@
 -- place that avoids those before it are the grown siphons with that lowest place.
 use Rattle.std.proofs.Common.{◌≡◌, ◌↔◌, ◌⊎◌, refl, sym, ap, ◌∙◌, subst, ℕ, ◌+◌, ◌<◌, ◌≤◌, ◌||◌, List, Bool, true, false, IsTrue, eqb, ltb, length, set, replicate, length-set, add-one, inl, inr, arith}
 use Rattle.std.proofs.Math.Bool.{or-false}
-use Rattle.std.proofs.lemmas.Bool.{cases_lt, cases_eq, eq-eqb, eqb-true, lt-ltb, ltb-true, le-ltb}
+use Rattle.std.proofs.lemmas.Bool.{or_cases, or_left, or_right, cases_lt, cases_eq, eq-eqb, eqb-true, lt-ltb, ltb-true, le-ltb}
 use Rattle.std.proofs.lemmas.List.{get_or_past, get_or-replicate, length-replicate}
 use Rattle.net_values.specs.Net.{Net}
 use Rattle.net_values.specs.PlaceSets.{has}
 use Rattle.closed_sets.specs.ClosedSets.{any_below}
 use Rattle.closed_sets.specs.Growth.{IsFirst, only_place, GrowsWhole}
-use Rattle.closed_sets.proofs.Below.{cases_bool, apart, any_at, none_from, none_at}
+use Rattle.closed_sets.proofs.Below.{cases_bool, apart, same_bools, any_at, none_from, none_at}
+use Rattle.closed_sets.proofs.Firsts.{first_same}
 use Rattle.siphon_branch.specs.declared.branch.Branch.{Branch}
 use Rattle.siphon_branch.specs.Classes.{HasSize}
 use Rattle.siphon_branch.specs.Met.{Meets, Overruns, IsGrownFrom, IsGrownSet}
-use Rattle.siphon_branch.proofs.Growths.{either, or_left, or_right, same_growth, first_same}
+use Rattle.siphon_branch.proofs.Growths.{same_growth}
 use Rattle.siphon_branch.proofs.Lists.{adds_on, some_on, adds_same, some_within, adds_nothing}
-use Rattle.siphon_branch.proofs.Parts.{placed, taken_back, same_bools}
+use Rattle.siphon_branch.proofs.Parts.{placed, taken_back}
 
 -- the grown siphons met before place n
 abbrev pub FoundBefore : Net → ℕ → List Bool → Type 0
@@ -51,7 +52,7 @@ below_more n f = subst (λ (m : ℕ). any_below m f ≡ (f n || any_below n f)) 
 lt_more : (q p : ℕ) → (eqb q p || ltb q p) ≡ ltb q (p + 1)
 lt_more q p =
     same_bools (eqb q p || ltb q p) (ltb q (p + 1))
-    (λ some. elim (either (eqb q p) (ltb q p) some) [
+    (λ some. elim (or_cases (eqb q p) (ltb q p) some) [
       | inl same ↦ let e = eqb-true q p same in lt-ltb q (p + 1) (omega arith)
       | inr less ↦ let l = ltb-true q p less in lt-ltb q (p + 1) (omega arith)
     ])
@@ -120,7 +121,7 @@ module _ (net : Net) (part : Branch) (p limit : ℕ) (old met : List (List Bool)
     ],
     λ after. elim (cases_bool (any_below p (has list))) [
       | inl before ↦ inl (after.0, before)
-      | inr none ↦ inr (root_from list after.0 (elim (either (has list p) (any_below p (has list)) (sym (below_more p (has list)) ∙ after.1)) [
+      | inr none ↦ inr (root_from list after.0 (elim (or_cases (has list p) (any_below p (has list)) (sym (below_more p (has list)) ∙ after.1)) [
         | inl member ↦ member
         | inr some ↦ absurd (apart _ some none)
       ]) none)

@@ -1,74 +1,27 @@
 use super::*;
-use net_values::{FlatNet, NoMemory, PlaceSet, Sets, Text};
+use net_values::{FlatNet, NoMemory, PlaceSet, Sets};
+use small_nets::{Arc, net_with};
 use std::alloc::Global;
 use std::process::Abort;
 use std::test::Fail;
 
-/// The arcs of a test net, each with a weight of 1: place to transition, or transition to place.
-#[derive(Clone, Copy)]
-enum Arc {
-    In(usize, usize),
-    Out(usize, usize),
-}
-
-/// A net with this many places and transitions and no arcs.
-fn net_of_size(
-    rt: &impl Abort,
-    alloc: Global,
-    places: usize,
-    transitions: usize,
-) -> Result<FlatNet, NoMemory> {
-    let mut net = FlatNet::new(alloc);
-    for _ in 0..places {
-        assert!(rt; net.places() < 2048);
-        net.add_place(Text::new(alloc), 0)?;
-    }
-    for _ in 0..transitions {
-        assert!(rt; net.transitions() < 2048);
-        net.add_transition(Text::new(alloc))?;
-    }
-    Ok(net)
-}
-
-/// Adds the arcs.
-fn join(rt: &impl Abort, net: &mut FlatNet, arcs: &[Arc]) -> Result<(), NoMemory> {
-    for arc in arcs {
-        assert!(rt; net.arcs() < 65536);
-        match *arc {
-            Arc::In(p, t) => {
-                assert!(rt; p < net.places() && t < net.transitions());
-                net.add_input(p, t, 1)?;
-            }
-            Arc::Out(t, p) => {
-                assert!(rt; p < net.places() && t < net.transitions());
-                net.add_output(t, p, 1)?;
-            }
-        }
-    }
-    Ok(())
-}
-
 /// The net of philosophers, of whom each takes the forks on both sides at once.
 fn table_for(rt: &impl Abort, alloc: Global, philosophers: usize) -> Result<FlatNet, NoMemory> {
     assert!(rt; 0 < philosophers && philosophers <= 200);
-    let mut net = net_of_size(rt, alloc, 3 * philosophers, 2 * philosophers)?;
+    let mut arcs: Vec<Arc> = Vec::new(alloc);
     for i in 0..philosophers {
         let (think, fork, eat) = (i, philosophers + i, 2 * philosophers + i);
         let other = philosophers + (i + 1) % philosophers;
         let (take, release) = (2 * i, 2 * i + 1);
-        let arcs = [
-            Arc::In(think, take),
-            Arc::In(fork, take),
-            Arc::In(other, take),
-            Arc::Out(take, eat),
-            Arc::In(eat, release),
-            Arc::Out(release, think),
-            Arc::Out(release, fork),
-            Arc::Out(release, other),
-        ];
-        join(rt, &mut net, &arcs)?;
+        for place in [think, fork, other] {
+            arcs.push((place, take, -1))?;
+            arcs.push((place, release, 1))?;
+        }
+        arcs.push((eat, take, 1))?;
+        arcs.push((eat, release, -1))?;
     }
-    Ok(net)
+    let marking = [0; 600];
+    net_with(alloc, &marking[..3 * philosophers], 2 * philosophers, arcs.as_slice())
 }
 
 /// Whether the set has exactly the places of the row.
@@ -94,13 +47,10 @@ fn has_rows(list: &Sets, rows: &[&[usize]]) -> bool {
 #[test]
 fn minimal_siphons_and_traps_of_small_nets(rt: HostRuntime) -> Result<(), Fail> {
     let alloc = rt.alloc();
-    let mut ring = net_of_size(&rt, alloc, 2, 2)?;
-    let arcs = [Arc::In(0, 0), Arc::Out(0, 1), Arc::In(1, 1), Arc::Out(1, 0)];
-    join(&rt, &mut ring, &arcs)?;
-    let mut line = net_of_size(&rt, alloc, 2, 1)?;
-    join(&rt, &mut line, &[Arc::In(0, 0), Arc::Out(0, 1)])?;
-    let isles = net_of_size(&rt, alloc, 2, 0)?;
-    let only = net_of_size(&rt, alloc, 0, 1)?;
+    let ring = net_with(alloc, &[0; 2], 2, &[(0, 0, -1), (1, 0, 1), (1, 1, -1), (0, 1, 1)])?;
+    let line = net_with(alloc, &[0; 2], 1, &[(0, 0, -1), (1, 0, 1)])?;
+    let isles = net_with(alloc, &[0; 2], 0, &[])?;
+    let only = net_with(alloc, &[], 1, &[])?;
     let three = table_for(&rt, alloc, 3)?;
     let six: [&[usize]; 6] = [
         &[5, 7, 8],
@@ -140,7 +90,7 @@ fn outcome(alloc: Global, net: &FlatNet, sets: u32) -> (bool, usize) {
 #[test]
 fn one_more_grown_siphon_than_the_limit_is_carried(rt: HostRuntime) -> Result<(), Fail> {
     let alloc = rt.alloc();
-    let isles = net_of_size(&rt, alloc, 2, 0)?;
+    let isles = net_with(alloc, &[0; 2], 0, &[])?;
     assert_eq!(rt; outcome(alloc, &isles, 0), (false, 1));
     assert_eq!(rt; outcome(alloc, &isles, 1), (false, 2));
     let many = table_for(&rt, alloc, 100)?;
