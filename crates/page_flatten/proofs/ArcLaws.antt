@@ -7,13 +7,12 @@ use Rattle.net_values.specs.declared.document.Item.{Item}
 use Rattle.net_values.specs.declared.document.ArcNode.{ArcNode}
 use Rattle.net_values.specs.FlatNets.{NetLists, KeepsNodes, AddsInput, AddsOutput}
 use Rattle.pnml_grammar.specs.Valued.{HasValuesInRange}
-use Rattle.page_flatten.specs.declared.node.End.{End}
-use Rattle.page_flatten.specs.declared.node.End.TheVariants.{AtPlace, AtTransition}
-use Rattle.page_flatten.specs.declared.arcs.Joint.TheVariants.{Input, Output, Neither}
-use Rattle.page_flatten.specs.Joints.{joint_of}
+use Rattle.page_flatten.specs.declared.links.End.{End}
+use Rattle.page_flatten.specs.declared.links.End.TheVariants.{AtPlace, AtTransition}
+use Rattle.page_flatten.specs.Joints.{IsJoint, joint_between}
 use Rattle.page_flatten.specs.Rules.{AreDistinct, IsPlaceAndTransition}
-use Rattle.page_flatten.specs.declared.node.Link.{Link}
-use Rattle.page_flatten.specs.declared.node.NodeKind.{NodeKind}
+use Rattle.page_flatten.specs.declared.links.Link.{Link}
+use Rattle.net_values.specs.declared.node_kind.NodeKind.{NodeKind}
 use Rattle.page_flatten.specs.Elements.{arcs}
 use Rattle.page_flatten.specs.Flat.{weight_between}
 use Rattle.page_flatten.specs.Tables.{table_ids, EndsById, LinksJoin, LinksStayWithin, IsEndWithin, IsResolvedBy, AddsArcs}
@@ -138,37 +137,27 @@ still_within links old new kept stays n end ends =
     let transitions = kept_transitions old new kept in
     subst (λ p. IsEndWithin p (length new.transitions) end) (sym places) (subst (λ t. IsEndWithin (length old.places) t end) (sym transitions) (stays n end ends))
 
--- an arc whose ends don't join a place and a transition
-pub not_joined : (table : List (List ℕ × Option NodeKind)) (links : List Link) (arc : ArcNode) (source target : Option End) → ((end : End) → EndsById table links arc.source end → source ≡ Some end) → ((end : End) → EndsById table links arc.target end → target ≡ Some end) → Neither ≡ joint_of source target → LinksJoin table links arc → ⊥
-not_joined table links arc source target from to none joins = go joins.source joins.target joins.apart (none ∙ (λ i. joint_of (from joins.source joins.source_ends i) (to joins.target joins.target_ends i)))
-  where
-    go : (s t : End) → IsPlaceAndTransition s t → Neither ≡ joint_of (Some s) (Some t) → ⊥
-    go (AtPlace p) (AtTransition t) apart e = cc
-    go (AtTransition t) (AtPlace p) apart e = cc
-    go (AtPlace p) (AtPlace q) apart e = apart
-    go (AtTransition t) (AtTransition u) apart e = apart
+-- what the chains of two ids end in says what an arc between them joins, since each has one end
+module _ (table : List (List ℕ × Option NodeKind)) (links : List Link) (distinct : AreDistinct (table_ids table)) where
+  one_end_by_id : (id : List ℕ) (a b : End) → EndsById table links id a → EndsById table links id b → a ≡ b
+  one_end_by_id id a b h k =
+      let other = ends_at_number table links distinct h.number id (Some h.kind) b h.occurs k in
+      (one_end h.ends.steps other.steps links h.number a b h.ends.chain other.chain).1
 
-pub input_ends : (source target : Option End) (p t : ℕ) → Input p t ≡ joint_of source target → (source ≡ Some (AtPlace p)) × (target ≡ Some (AtTransition t))
-input_ends None target p t e = absurd cc
-input_ends (Some (AtPlace q)) None p t e = absurd cc
-input_ends (Some (AtPlace q)) (Some (AtPlace r)) p t e = absurd cc
-input_ends (Some (AtPlace q)) (Some (AtTransition u)) p t e = let same : (q ≡ p) × (u ≡ t) = (cc, cc) in (ap (λ n. Some (AtPlace n)) same.0, ap (λ n. Some (AtTransition n)) same.1)
-input_ends (Some (AtTransition u)) None p t e = absurd cc
-input_ends (Some (AtTransition u)) (Some (AtPlace r)) p t e = absurd cc
-input_ends (Some (AtTransition u)) (Some (AtTransition v)) p t e = absurd cc
+  alike : (arc : ArcNode) (source target : End) → (IsPlaceAndTransition source target → ⊥) → EndsById table links arc.source source → EndsById table links arc.target target → LinksJoin table links arc → ⊥
+  alike arc source target same from to joins =
+      let start = one_end_by_id arc.source joins.source source joins.source_ends from in
+      let stop = one_end_by_id arc.target joins.target target joins.target_ends to in
+      same (subst (λ e. IsPlaceAndTransition e target) start (subst (IsPlaceAndTransition joins.source) stop joins.apart))
 
-pub output_ends : (source target : Option End) (t p : ℕ) → Output t p ≡ joint_of source target → (source ≡ Some (AtTransition t)) × (target ≡ Some (AtPlace p))
-output_ends None target t p e = absurd cc
-output_ends (Some (AtPlace q)) None t p e = absurd cc
-output_ends (Some (AtPlace q)) (Some (AtPlace r)) t p e = absurd cc
-output_ends (Some (AtPlace q)) (Some (AtTransition u)) t p e = absurd cc
-output_ends (Some (AtTransition u)) None t p e = absurd cc
-output_ends (Some (AtTransition u)) (Some (AtPlace r)) t p e = let same : (u ≡ t) × (r ≡ p) = (cc, cc) in (ap (λ n. Some (AtTransition n)) same.0, ap (λ n. Some (AtPlace n)) same.1)
-output_ends (Some (AtTransition u)) (Some (AtTransition v)) t p e = absurd cc
-
--- what was found for an id is the one end that its chain has
-pub resolved_is : (table : List (List ℕ × Option NodeKind)) (links : List Link) → AreDistinct (table_ids table) → (id : List ℕ) (found : Option End) → IfSome found (EndsById table links id) → IfNone found ((end : End) → EndsById table links id end → ⊥) → (end : End) → EndsById table links id end → found ≡ Some end
-resolved_is table links distinct id None some none end h = absurd (none end h)
-resolved_is table links distinct id (Some found) some none end h =
-    let other = ends_at_number table links distinct some.number id (Some some.kind) end some.occurs h in
-    ap Some (one_end some.ends.steps other.steps links some.number found end some.ends.chain other.chain).1
+  pub is_joint : (arc : ArcNode) (source target : Option End)
+      → IfSome source (EndsById table links arc.source) → IfNone source ((end : End) → EndsById table links arc.source end → ⊥)
+      → IfSome target (EndsById table links arc.target) → IfNone target ((end : End) → EndsById table links arc.target end → ⊥)
+      → IsJoint table links arc (joint_between source target)
+  is_joint arc None target from no_from to no_to = λ joins. no_from joins.source joins.source_ends
+  is_joint arc (Some (AtPlace p)) None from no_from to no_to = λ joins. no_to joins.target joins.target_ends
+  is_joint arc (Some (AtTransition t)) None from no_from to no_to = λ joins. no_to joins.target joins.target_ends
+  is_joint arc (Some (AtPlace p)) (Some (AtTransition t)) from no_from to no_to = (from, to)
+  is_joint arc (Some (AtTransition t)) (Some (AtPlace p)) from no_from to no_to = (from, to)
+  is_joint arc (Some (AtPlace p)) (Some (AtPlace q)) from no_from to no_to = alike arc (AtPlace p) (AtPlace q) (λ h. h) from to
+  is_joint arc (Some (AtTransition t)) (Some (AtTransition u)) from no_from to no_to = alike arc (AtTransition t) (AtTransition u) (λ h. h) from to

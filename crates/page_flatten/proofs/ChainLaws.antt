@@ -2,10 +2,10 @@
 -- may lead straight to the end of its chain.
 use Rattle.std.proofs.Common.{◌≡◌, ◌≢◌, refl, sym, ap, ◌∙◌, subst, ℕ, zero, suc, ◌+◌, ◌<◌, ◌≤◌, List, [], ◌∷◌, Option, Some, length, set, slice_get, inl, inr, arith}
 use Rattle.std.proofs.lemmas.Bool.{cases_eq}
-use Rattle.page_flatten.specs.declared.node.End.{End}
-use Rattle.page_flatten.specs.declared.node.Link.{Link}
-use Rattle.page_flatten.specs.declared.node.Link.TheVariants.{Apart, Ends, Leads}
-use Rattle.page_flatten.specs.declared.node.NodeKind.{NodeKind}
+use Rattle.page_flatten.specs.declared.links.End.{End}
+use Rattle.page_flatten.specs.declared.links.Link.{Link}
+use Rattle.page_flatten.specs.declared.links.Link.TheVariants.{Apart, Ends, Leads}
+use Rattle.net_values.specs.declared.node_kind.NodeKind.{NodeKind}
 use Rattle.page_flatten.specs.Elements.{ReferenceTo}
 use Rattle.page_flatten.specs.Rules.{AreDistinct}
 use Rattle.page_flatten.specs.Tables.{table_ids, EndsIn, EndsAt, EndsById, HaveSameEnds, ItsLinksEnd}

@@ -10,12 +10,11 @@ use Rattle.net_values.specs.declared.document.NetTree.{NetTree}
 use Rattle.net_values.specs.declared.document.ArcNode.{ArcNode}
 use Rattle.net_values.specs.declared.document.Item.{Item}
 use Rattle.net_values.specs.declared.document.Item.TheVariants.{Page, PageEnd, Place, Transition, RefPlace, RefTransition, Arc}
-use Rattle.page_flatten.specs.declared.node.End.{End}
-use Rattle.page_flatten.specs.declared.node.End.TheVariants.{AtPlace, AtTransition}
-use Rattle.page_flatten.specs.declared.node.Link.{Link}
-use Rattle.page_flatten.specs.declared.node.Link.TheVariants.{Apart, Ends, Leads}
-use Rattle.page_flatten.specs.declared.node.NodeKind.{NodeKind}
-use Rattle.page_flatten.specs.declared.node.NodeKind.TheVariants.{OfPlaces, OfTransitions}
+use Rattle.page_flatten.specs.declared.links.End.{End}
+use Rattle.page_flatten.specs.declared.links.End.TheVariants.{AtPlace, AtTransition}
+use Rattle.page_flatten.specs.declared.links.Link.{Link}
+use Rattle.page_flatten.specs.declared.links.Link.TheVariants.{Apart, Ends, Leads}
+use Rattle.net_values.specs.declared.node_kind.NodeKind.{NodeKind}
 use Rattle.page_flatten.specs.Elements.{Mention, ReferenceTo, elements, elements_from, entries, mentions}
 use Rattle.page_flatten.specs.Chains.{Resolves}
 use Rattle.page_flatten.specs.Rules.{AreDistinct, HasDistinctIds, MentionsNodes, IsKnown, NamesItsKind, ItsChainEnds, IsPlaceAndTransition, JoinsPlaceAndTransition, IsFirstWithout, IsFirstRepeated}
@@ -23,8 +22,9 @@ use Rattle.page_flatten.specs.Tables.{table_ids, EndsIn, EndsAt, AreLinksOf}
 use Rattle.page_flatten.proofs.Lists.{some_is, same_read}
 use Rattle.page_flatten.proofs.Passes.{first_only, first_after, first_before}
 use Rattle.page_flatten.proofs.ChainLaws.{short, goes_on, followed_none, followed_off, ends_at_number}
-use Rattle.page_flatten.proofs.LinkLaws.{distinct_push, ids_are}
+use Rattle.page_flatten.proofs.LinkLaws.{distinct_push}
 use Rattle.page_flatten.proofs.Meaning.{ends_by_id, resolves_by_id}
+use Rattle.page_flatten.proofs.WholeLaws.{distinct_entries}
 use Rattle.page_flatten.proofs.OneAnswer.{one_end_of}
 
 -- it holds, or is refuted
@@ -69,10 +69,10 @@ same_id a b = go (pointwise nat_eq a b) refl
     go false is = inr (λ e. true≢false (sym ((bytes_eq-Decides a b).1 e) ∙ is))
 
 equal_kinds : (a b : NodeKind) → Decided (a ≡ b)
-equal_kinds OfPlaces OfPlaces = inl refl
-equal_kinds OfPlaces OfTransitions = inr (λ e. cc)
-equal_kinds OfTransitions OfPlaces = inr (λ e. cc)
-equal_kinds OfTransitions OfTransitions = inl refl
+equal_kinds NodeKind.Place NodeKind.Place = inl refl
+equal_kinds NodeKind.Place NodeKind.Transition = inr (λ e. cc)
+equal_kinds NodeKind.Transition NodeKind.Place = inr (λ e. cc)
+equal_kinds NodeKind.Transition NodeKind.Transition = inl refl
 
 -- the ids are distinct, or a first one is repeated
 pub distinct_or_repeated : (front rest : List (List ℕ)) → AreDistinct front → AreDistinct (front ++ rest) ⊎ ((id : List ℕ) × IsFirstRepeated (front ++ rest) id)
@@ -178,7 +178,7 @@ place_and_transition (AtTransition t) (AtTransition u) = inr (λ h. h)
 
 module _ (net : NetTree) (ids : HasDistinctIds net) (known : MentionsNodes net) where
   distinct : AreDistinct (table_ids (entries net))
-  distinct = subst AreDistinct (sym (ids_are (elements net))) ids
+  distinct = distinct_entries net ids
 
   linked : (links : List Link) × AreLinksOf (entries net) (elements net) links
   linked = let rest = links_from (entries net) net.items 0 0 known in (Apart ∷ rest.0, (refl, rest.1))

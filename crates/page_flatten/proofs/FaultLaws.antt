@@ -5,8 +5,8 @@ use Rattle.net_values.specs.declared.document.RefNode.{RefNode}
 use Rattle.net_values.specs.declared.document.ArcNode.{ArcNode}
 use Rattle.page_flatten.specs.declared.fault.FlatFault.{FlatFault}
 use Rattle.page_flatten.specs.declared.fault.FlatFault.TheVariants.{NoMemory, DuplicateId, UnknownId, RefKind, RefCycle, ArcEnds}
-use Rattle.page_flatten.specs.declared.node.Link.{Link}
-use Rattle.page_flatten.specs.declared.node.NodeKind.{NodeKind}
+use Rattle.page_flatten.specs.declared.links.Link.{Link}
+use Rattle.net_values.specs.declared.node_kind.NodeKind.{NodeKind}
 use Rattle.page_flatten.specs.Elements.{Mention, ReferenceTo, reference_of}
 use Rattle.page_flatten.specs.Rules.{IsKnown, NamesItsKind, IsFirstWithout}
 use Rattle.page_flatten.specs.Tables.{ItsLinksEnd, LinksJoin, IsFirstUnknown, IsFirstOfWrongKind, IsFirstEndless, IsFirstMisjoined, IsEndless, IsMisjoined}

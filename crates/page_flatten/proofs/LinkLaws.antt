@@ -6,9 +6,9 @@ use Rattle.std.proofs.lemmas.List.{append-nil, drop_all, map-append}
 use Rattle.net_values.specs.declared.document.NetTree.{NetTree}
 use Rattle.net_values.specs.declared.document.Item.{Item}
 use Rattle.net_values.specs.declared.document.Item.TheVariants.{Page, PageEnd, Place, Transition, RefPlace, RefTransition, Arc}
-use Rattle.page_flatten.specs.declared.node.NodeKind.{NodeKind}
-use Rattle.page_flatten.specs.declared.node.Link.{Link}
-use Rattle.page_flatten.specs.declared.node.Link.TheVariants.{Apart}
+use Rattle.net_values.specs.declared.node_kind.NodeKind.{NodeKind}
+use Rattle.page_flatten.specs.declared.links.Link.{Link}
+use Rattle.page_flatten.specs.declared.links.Link.TheVariants.{Apart}
 use Rattle.page_flatten.specs.Elements.{Element, NoNode, elements_from, elements, entry_of, entries, mentions}
 use Rattle.page_flatten.specs.declared.fault.FlatFault.{FlatFault}
 use Rattle.page_flatten.specs.declared.fault.FlatFault.TheVariants.{NoMemory, DuplicateId, UnknownId, RefKind, RefCycle, ArcEnds}

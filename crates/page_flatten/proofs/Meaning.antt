@@ -1,12 +1,11 @@
 -- The tables say of numbers what the definitions say of ids: chains of links end where chains of references do.
 use Rattle.std.proofs.Common.{◌≡◌, refl, sym, ap, ◌∙◌, subst, ℕ, zero, suc, List, [], ◌∷◌, Option, Some, map, slice_get}
 use Rattle.std.proofs.lemmas.Option.{some_pair_parts}
-use Rattle.page_flatten.specs.declared.node.End.{End}
-use Rattle.page_flatten.specs.declared.node.End.TheVariants.{AtPlace, AtTransition}
-use Rattle.page_flatten.specs.declared.node.Link.{Link}
-use Rattle.page_flatten.specs.declared.node.Link.TheVariants.{Ends, Leads}
-use Rattle.page_flatten.specs.declared.node.NodeKind.{NodeKind}
-use Rattle.page_flatten.specs.declared.node.NodeKind.TheVariants.{OfPlaces, OfTransitions}
+use Rattle.page_flatten.specs.declared.links.End.{End}
+use Rattle.page_flatten.specs.declared.links.End.TheVariants.{AtPlace, AtTransition}
+use Rattle.page_flatten.specs.declared.links.Link.{Link}
+use Rattle.page_flatten.specs.declared.links.Link.TheVariants.{Ends, Leads}
+use Rattle.net_values.specs.declared.node_kind.NodeKind.{NodeKind}
 use Rattle.page_flatten.specs.Elements.{Element, Role, NoNode, Real, Reference, entry_of, kind_of}
 use Rattle.page_flatten.specs.Chains.{Resolves, to_itself, to_what_it_names}
 use Rattle.page_flatten.specs.Rules.{AreDistinct}
@@ -42,8 +41,8 @@ reference_from_link table (Reference kind target) m is =
     (kind, target, refl, is.2, subst (λ k. slice_get table k ≡ Some (target, Some is.2)) (sym (lead_is is.1)) is.3)
 
 real_kind : (end : End) → (kind : NodeKind) × (kind_of (Real end) ≡ Some kind)
-real_kind (AtPlace p) = (OfPlaces, refl)
-real_kind (AtTransition t) = (OfTransitions, refl)
+real_kind (AtPlace p) = (NodeKind.Place, refl)
+real_kind (AtTransition t) = (NodeKind.Transition, refl)
 
 module _ (elements : List Element) (links : List Link) (distinct : AreDistinct (table_ids (map entry_of elements))) (are : AreLinksOf (map entry_of elements) elements links) where
   pub ends_by_id : (id : List ℕ) (end : End) → Resolves elements id end → EndsById (map entry_of elements) links id end

@@ -4,6 +4,7 @@ use Rattle.std.specs.List.{flat_map}
 use Rattle.std.proofs.lemmas.List.{append-nil, drop_all, length-map}
 use Rattle.net_values.specs.declared.document.Item.{Item}
 use Rattle.net_values.specs.declared.document.Item.TheVariants.{Place, Transition, Arc}
+use Rattle.net_values.specs.declared.limits.TheConstants.{MAX_PLACES, MAX_TRANSITIONS}
 use Rattle.net_values.specs.FlatNets.{NetLists, transition_ids}
 use Rattle.net_values.specs.Items.{is_place, is_transition, is_arc}
 use Rattle.std.proofs.lemmas.List.Concat.{length-flat_map}
@@ -67,7 +68,7 @@ piece_fits f items k item old rest split =
     ap length (split ∙ ap (λ l. old ++ flat_map f l) rest) ∙ length-append old (f item ++ flat_map f (drop (k + 1) items)) ∙ ap (λ n. length old + n) (length-append (f item) (flat_map f (drop (k + 1) items))) in
     omega arith
 
-pub room_for : (items : List Item) (k : ℕ) (item : Item) (net : NetLists) → k < length items → item ≡ get_or items k item → HasNodesOf items k net → count_by is_place items ≤ 2048 → count_by is_transition items ≤ 2048 → HasRoomFor net item
+pub room_for : (items : List Item) (k : ℕ) (item : Item) (net : NetLists) → k < length items → item ≡ get_or items k item → HasNodesOf items k net → count_by is_place items ≤ MAX_PLACES → count_by is_transition items ≤ MAX_TRANSITIONS → HasRoomFor net item
 room_for items k item net within is has few_places few_transitions =
     let rest = item_and_rest items k item within is in
     let ids : length (transition_ids net) ≡ length net.transitions = length-map net.transitions (λ transition. transition.id) in

@@ -1,10 +1,9 @@
 -- Tables of ids and kinds of nodes: one id has one number.
 use Rattle.std.proofs.Common.{◌≡◌, refl, sym, ap, ◌∙◌, subst, ℕ, Bool, true, false, true≢false, MatchBool, List, Option, Some, None, slice_get}
 use denote.Enum.Bare.{sameb}
-use Rattle.page_flatten.specs.contracts.node.NodeKind.{the_type}
+use Rattle.net_values.specs.contracts.node_kind.NodeKind.{the_type}
 use Rattle.std.proofs.lemmas.Option.{some_pair_parts, none-some}
-use Rattle.page_flatten.specs.declared.node.NodeKind.{NodeKind}
-use Rattle.page_flatten.specs.declared.node.NodeKind.TheVariants.{OfPlaces, OfTransitions}
+use Rattle.net_values.specs.declared.node_kind.NodeKind.{NodeKind}
 use Rattle.page_flatten.specs.Rules.{AreDistinct, NamesNode}
 use Rattle.page_flatten.specs.Tables.{table_ids}
 use Rattle.page_flatten.proofs.Lists.{some_is, get_map}
@@ -28,14 +27,14 @@ module _ (table : List (List ℕ × Option NodeKind)) where
 
 -- what the comparison of two kinds says
 pub same_kind : (a b : NodeKind) (same : Bool) → same ≡ sameb the_type a b → MatchBool same (a ≡ b) (a ≡ b → ⊥)
-same_kind OfPlaces OfPlaces true is = refl
-same_kind OfPlaces OfPlaces false is = absurd (true≢false (sym is))
-same_kind OfPlaces OfTransitions true is = absurd (true≢false is)
-same_kind OfPlaces OfTransitions false is = λ e. cc
-same_kind OfTransitions OfPlaces true is = absurd (true≢false is)
-same_kind OfTransitions OfPlaces false is = λ e. cc
-same_kind OfTransitions OfTransitions true is = refl
-same_kind OfTransitions OfTransitions false is = absurd (true≢false (sym is))
+same_kind NodeKind.Place NodeKind.Place true is = refl
+same_kind NodeKind.Place NodeKind.Place false is = absurd (true≢false (sym is))
+same_kind NodeKind.Place NodeKind.Transition true is = absurd (true≢false is)
+same_kind NodeKind.Place NodeKind.Transition false is = λ e. cc
+same_kind NodeKind.Transition NodeKind.Place true is = absurd (true≢false is)
+same_kind NodeKind.Transition NodeKind.Place false is = λ e. cc
+same_kind NodeKind.Transition NodeKind.Transition true is = refl
+same_kind NodeKind.Transition NodeKind.Transition false is = absurd (true≢false (sym is))
 
 -- the one node with the id is of the kind, or no node with the id is
 pub names_kind : (table : List (List ℕ × Option NodeKind)) → AreDistinct (table_ids table) → (n : ℕ) (id : List ℕ) (found kind : NodeKind) (same : Bool) → slice_get table n ≡ Some (id, Some found) → same ≡ sameb the_type found kind → MatchBool same (NamesNode table id kind) (NamesNode table id kind → ⊥)

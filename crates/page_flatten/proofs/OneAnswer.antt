@@ -7,8 +7,8 @@ use Rattle.net_values.specs.declared.document.NetTree.{NetTree}
 use Rattle.net_values.specs.declared.document.ArcNode.{ArcNode}
 use Rattle.page_flatten.specs.declared.fault.FlatFault.{FlatFault}
 use Rattle.page_flatten.specs.declared.fault.FlatFault.TheVariants.{NoMemory, DuplicateId, UnknownId, RefKind, RefCycle, ArcEnds}
-use Rattle.page_flatten.specs.declared.node.End.{End}
-use Rattle.page_flatten.specs.declared.node.End.TheVariants.{AtPlace, AtTransition}
+use Rattle.page_flatten.specs.declared.links.End.{End}
+use Rattle.page_flatten.specs.declared.links.End.TheVariants.{AtPlace, AtTransition}
 use Rattle.page_flatten.specs.Elements.{Element, Role, Real, Reference, elements, Mention, ReferenceTo, mentions, references, arcs}
 use Rattle.page_flatten.specs.Chains.{Resolves, to_itself, to_what_it_names}
 use Rattle.page_flatten.specs.Rules.{AreDistinct, ids_of, IsFirstWithout, IsFirstRepeated, FirstBrokenOf}

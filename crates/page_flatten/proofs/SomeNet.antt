@@ -12,8 +12,8 @@ use Rattle.net_values.specs.declared.flat_net.FlatTransition.{FlatTransition}
 use Rattle.net_values.specs.Columns.{part_at, weight_at}
 use Rattle.net_values.specs.FlatNets.{NetLists}
 use Rattle.net_values.specs.Items.{is_arc}
-use Rattle.page_flatten.specs.declared.node.End.{End}
-use Rattle.page_flatten.specs.declared.node.End.TheVariants.{AtPlace, AtTransition}
+use Rattle.page_flatten.specs.declared.links.End.{End}
+use Rattle.page_flatten.specs.declared.links.End.TheVariants.{AtPlace, AtTransition}
 use Rattle.page_flatten.specs.Elements.{Element, Real, elements, arcs}
 use Rattle.page_flatten.specs.Chains.{Resolves, to_itself, to_what_it_names}
 use Rattle.page_flatten.specs.Rules.{JoinsArcs, JoinsPlaceAndTransition}

@@ -1,5 +1,5 @@
 -- What the passes found, over numbers, is what the definitions say of the net, over ids.
-use Rattle.std.proofs.Common.{◌≡◌, ap, ◌∙◌, subst, ℕ, zero, suc, ◌+◌, ◌≤◌, List, [], ◌∷◌, Some, length, slice_get, arith}
+use Rattle.std.proofs.Common.{◌≡◌, sym, ap, ◌∙◌, subst, ℕ, zero, suc, ◌+◌, ◌≤◌, List, [], ◌∷◌, Some, length, slice_get, arith}
 use Rattle.std.specs.List.{flat_map, AllByRecursion, AllZip}
 use Rattle.std.proofs.lemmas.List.{length-map}
 use Rattle.net_values.specs.declared.document.NetTree.{NetTree}
@@ -9,16 +9,16 @@ use Rattle.net_values.specs.declared.document.Item.TheVariants.{Page, PageEnd, P
 use Rattle.net_values.specs.FlatNets.{NetLists, transition_ids}
 use Rattle.page_flatten.specs.declared.fault.FlatFault.{FlatFault}
 use Rattle.page_flatten.specs.declared.fault.FlatFault.TheVariants.{NoMemory, DuplicateId, UnknownId, RefKind, RefCycle, ArcEnds}
-use Rattle.page_flatten.specs.declared.node.End.{End}
-use Rattle.page_flatten.specs.declared.node.End.TheVariants.{AtPlace, AtTransition}
-use Rattle.page_flatten.specs.declared.node.Link.{Link}
-use Rattle.page_flatten.specs.declared.node.Link.TheVariants.{Ends}
-use Rattle.page_flatten.specs.declared.node.NodeKind.{NodeKind}
+use Rattle.page_flatten.specs.declared.links.End.{End}
+use Rattle.page_flatten.specs.declared.links.End.TheVariants.{AtPlace, AtTransition}
+use Rattle.page_flatten.specs.declared.links.Link.{Link}
+use Rattle.page_flatten.specs.declared.links.Link.TheVariants.{Ends}
+use Rattle.net_values.specs.declared.node_kind.NodeKind.{NodeKind}
 use Rattle.page_flatten.specs.Elements.{Element, Role, NoNode, Real, Reference, elements, elements_from, entries, mentions, references, ReferenceTo, arcs}
 use Rattle.page_flatten.specs.Chains.{Resolves}
 use Rattle.page_flatten.specs.Rules.{AreDistinct, HasDistinctIds, MentionsNodes, KeepsKinds, EndsChains, JoinsArcs, ItsChainEnds, JoinsPlaceAndTransition, IsAnswered}
 use Rattle.page_flatten.specs.Flat.{FlatArc, IsResolved, Flat, flat_places, flat_transitions}
-use Rattle.page_flatten.specs.Tables.{table_ids, EndsAt, EndsById, HaveSameEnds, AreLinksOf, ItsLinksEnd, LinksJoin, IsFirstUnknown, IsFirstOfWrongKind, IsFirstEndless, IsFirstMisjoined, IsEndWithin, LinksStayWithin, IsResolvedBy, AddsArcs, HasNoArcs}
+use Rattle.page_flatten.specs.Tables.{table_ids, EndsAt, EndsById, HaveSameEnds, AreLinksOf, AreSettled, ItsLinksEnd, LinksJoin, IsFirstUnknown, IsFirstOfWrongKind, IsFirstEndless, IsFirstMisjoined, IsEndWithin, LinksStayWithin, IsResolvedBy, AddsArcs, HasNoArcs}
 use Rattle.page_flatten.proofs.Lists.{some_is}
 use Rattle.page_flatten.proofs.Passes.{each_weaker, first_same}
 use Rattle.page_flatten.proofs.ChainLaws.{has_end, kept_by_id, sound_by_id}
@@ -28,6 +28,9 @@ use Rattle.page_flatten.proofs.NodeLaws.{arcs_counted}
 
 pub distinct_ids : (net : NetTree) → AreDistinct (table_ids (entries net)) → HasDistinctIds net
 distinct_ids net distinct = subst AreDistinct (ids_are (elements net)) distinct
+
+pub distinct_entries : (net : NetTree) → HasDistinctIds net → AreDistinct (table_ids (entries net))
+distinct_entries net ids = subst AreDistinct (sym (ids_are (elements net))) ids
 
 pub mention_answered : (net : NetTree) → HasDistinctIds net → (fault : FlatFault) → IsFirstUnknown (entries net) (flat_map mentions net.items) fault → IsAnswered net fault
 mention_answered net distinct NoMemory h = tt
@@ -110,24 +113,6 @@ module _ (net : NetTree) (distinct : AreDistinct (table_ids (entries net))) (old
   links_end : (reference : ReferenceTo) → ItsChainEnds net reference → ItsLinksEnd (entries net) old reference
   links_end reference h = (h.0, ends_old reference.target h.0 h.1)
 
-  arc_joins : (arc : ArcNode) → LinksJoin (entries net) new arc → JoinsPlaceAndTransition net arc
-  arc_joins arc h = record {
-    source = h.source;
-    target = h.target;
-    source_resolves = resolves_new arc.source h.source h.source_ends;
-    target_resolves = resolves_new arc.target h.target h.target_ends;
-    apart = h.apart;
-  }
-
-  links_join : (arc : ArcNode) → JoinsPlaceAndTransition net arc → LinksJoin (entries net) new arc
-  links_join arc h = record {
-    source = h.source;
-    target = h.target;
-    source_ends = ends_new arc.source h.source h.source_resolves;
-    target_ends = ends_new arc.target h.target h.target_resolves;
-    apart = h.apart;
-  }
-
   pub chains_end : AllByRecursion (ItsLinksEnd (entries net) old) (flat_map references net.items) → EndsChains net
   chains_end h = each_weaker _ _ chain_ends (flat_map references net.items) h
 
@@ -139,14 +124,6 @@ module _ (net : NetTree) (distinct : AreDistinct (table_ids (entries net))) (old
   endless_answered ids known kinds (RefCycle id) h = (ids, known, kinds, h.0, first_same _ _ chain_ends links_end (flat_map references net.items) h.0 h.1, h.2)
   endless_answered ids known kinds (ArcEnds id) h = absurd h
 
-  pub misjoined_answered : HasDistinctIds net → MentionsNodes net → KeepsKinds net → EndsChains net → (fault : FlatFault) → IsFirstMisjoined (entries net) new (flat_map arcs net.items) fault → IsAnswered net fault
-  misjoined_answered ids known kinds chains NoMemory h = tt
-  misjoined_answered ids known kinds chains (DuplicateId id) h = absurd h
-  misjoined_answered ids known kinds chains (UnknownId id by) h = absurd h
-  misjoined_answered ids known kinds chains (RefKind id) h = absurd h
-  misjoined_answered ids known kinds chains (RefCycle id) h = absurd h
-  misjoined_answered ids known kinds chains (ArcEnds id) h = (ids, known, kinds, chains, h.0, first_same _ _ arc_joins links_join (flat_map arcs net.items) h.0 h.1, h.2)
-
   real_at : (n : ℕ) (end : End) → EndsAt old n end → IsCounted net.items 0 0 end
   real_at n end h =
       let last = has_end h.steps old n end h.chain in
@@ -154,23 +131,58 @@ module _ (net : NetTree) (distinct : AreDistinct (table_ids (entries net))) (old
       let role : back.0.role ≡ Real end = real_from_link (entries net) back.0.role end back.2 in
       counted_in net last.0 back.0.id end (back.1 ∙ (λ i. Some record { id = back.0.id; role = role i }))
 
+  pub settled : AreSettled net new
+  settled = record {
+    resolves = resolves_new;
+    ends = ends_new;
+    within = λ n end h. within_more _ _ _ _ end (omega arith) (omega arith) (real_at n end (same.sound n end h));
+  }
+
+-- from here on only that the links are settled
+module _ (net : NetTree) (links : List Link) (settled : AreSettled net links) where
+  arc_joins : (arc : ArcNode) → LinksJoin (entries net) links arc → JoinsPlaceAndTransition net arc
+  arc_joins arc h = record {
+    source = h.source;
+    target = h.target;
+    source_resolves = settled.resolves arc.source h.source h.source_ends;
+    target_resolves = settled.resolves arc.target h.target h.target_ends;
+    apart = h.apart;
+  }
+
+  links_join : (arc : ArcNode) → JoinsPlaceAndTransition net arc → LinksJoin (entries net) links arc
+  links_join arc h = record {
+    source = h.source;
+    target = h.target;
+    source_ends = settled.ends arc.source h.source h.source_resolves;
+    target_ends = settled.ends arc.target h.target h.target_resolves;
+    apart = h.apart;
+  }
+
+  pub misjoined_answered : HasDistinctIds net → MentionsNodes net → KeepsKinds net → EndsChains net → (fault : FlatFault) → IsFirstMisjoined (entries net) links (flat_map arcs net.items) fault → IsAnswered net fault
+  misjoined_answered ids known kinds chains NoMemory h = tt
+  misjoined_answered ids known kinds chains (DuplicateId id) h = absurd h
+  misjoined_answered ids known kinds chains (UnknownId id by) h = absurd h
+  misjoined_answered ids known kinds chains (RefKind id) h = absurd h
+  misjoined_answered ids known kinds chains (RefCycle id) h = absurd h
+  misjoined_answered ids known kinds chains (ArcEnds id) h = (ids, known, kinds, chains, h.0, first_same _ _ arc_joins links_join (flat_map arcs net.items) h.0 h.1, h.2)
+
   -- each end is a place or a transition of a net with these nodes
-  pub ends_within : (lists : NetLists) → lists.places ≡ flat_map flat_places net.items → transition_ids lists ≡ flat_map flat_transitions net.items → LinksStayWithin (length lists.places) (length lists.transitions) new
+  pub ends_within : (lists : NetLists) → lists.places ≡ flat_map flat_places net.items → transition_ids lists ≡ flat_map flat_transitions net.items → LinksStayWithin (length lists.places) (length lists.transitions) links
   ends_within lists places transitions n end h =
       let ids : length (transition_ids lists) ≡ length lists.transitions = length-map lists.transitions (λ transition. transition.id) in
-      within_more _ _ _ _ end (omega (arith, ap length places)) (omega (arith, ids, ap length transitions)) (real_at n end (same.sound n end h))
+      within_more _ _ _ _ end (omega (arith, ap length places)) (omega (arith, ids, ap length transitions)) (settled.within n end h)
 
-  resolved_arc : (arc : ArcNode) (flat : FlatArc) → IsResolvedBy (entries net) new arc flat → IsResolved (elements net) arc flat
+  resolved_arc : (arc : ArcNode) (flat : FlatArc) → IsResolvedBy (entries net) links arc flat → IsResolved (elements net) arc flat
   resolved_arc arc flat h = record {
-    source = resolves_new arc.source flat.source h.source;
-    target = resolves_new arc.target flat.target h.target;
+    source = settled.resolves arc.source flat.source h.source;
+    target = settled.resolves arc.target flat.target h.target;
     weight = h.weight;
   }
 
-  pub arcs_join : (bare flat : NetLists) → AddsArcs (entries net) new (flat_map arcs net.items) bare flat → JoinsArcs net
+  pub arcs_join : (bare flat : NetLists) → AddsArcs (entries net) links (flat_map arcs net.items) bare flat → JoinsArcs net
   arcs_join bare flat adds = each_weaker _ _ arc_joins (flat_map arcs net.items) adds.joined
 
-  pub flat_net : (bare flat : NetLists) → bare.places ≡ flat_map flat_places net.items → transition_ids bare ≡ flat_map flat_transitions net.items → HasNoArcs bare → AddsArcs (entries net) new (flat_map arcs net.items) bare flat → Flat record { net = net } flat
+  pub flat_net : (bare flat : NetLists) → bare.places ≡ flat_map flat_places net.items → transition_ids bare ≡ flat_map flat_transitions net.items → HasNoArcs bare → AddsArcs (entries net) links (flat_map arcs net.items) bare flat → Flat record { net = net } flat
   flat_net bare flat places transitions none adds = record {
     places = adds.nodes.places ∙ places;
     transitions = adds.nodes.transitions ∙ transitions;

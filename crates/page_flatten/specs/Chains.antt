@@ -1,8 +1,8 @@
 -- What a node resolves to: a place or a transition to itself, a reference node to what the node that its
 -- `ref` names resolves to, where that chain ends.
 use Rattle.std.specs.Prelude.{◌≡◌, ℕ, List, Some, slice_get}
-use Rattle.page_flatten.specs.declared.node.End.{End}
-use Rattle.page_flatten.specs.declared.node.NodeKind.{NodeKind}
+use Rattle.page_flatten.specs.declared.links.End.{End}
+use Rattle.net_values.specs.declared.node_kind.NodeKind.{NodeKind}
 use Rattle.page_flatten.specs.Elements.{Element, Real, Reference}
 
 -- the node with the id resolves to the end, by way of element number n

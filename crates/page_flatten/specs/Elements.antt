@@ -5,10 +5,9 @@ use Rattle.net_values.specs.declared.document.Item.{Item}
 use Rattle.net_values.specs.declared.document.Item.TheVariants.{Page, PageEnd, Place, Transition, RefPlace, RefTransition, Arc}
 use Rattle.net_values.specs.declared.document.ArcNode.{ArcNode}
 use Rattle.net_values.specs.declared.document.RefNode.{RefNode}
-use Rattle.page_flatten.specs.declared.node.End.{End}
-use Rattle.page_flatten.specs.declared.node.End.TheVariants.{AtPlace, AtTransition}
-use Rattle.page_flatten.specs.declared.node.NodeKind.{NodeKind}
-use Rattle.page_flatten.specs.declared.node.NodeKind.TheVariants.{OfPlaces, OfTransitions}
+use Rattle.page_flatten.specs.declared.links.End.{End}
+use Rattle.page_flatten.specs.declared.links.End.TheVariants.{AtPlace, AtTransition}
+use Rattle.net_values.specs.declared.node_kind.NodeKind.{NodeKind}
 
 -- what an element is to a chain of references: no node (the net, a page or an arc), a place or a transition,
 -- by its number in document order, or a reference to the node of an id
@@ -31,9 +30,9 @@ elements_from (Place node ∷ items) p t =
 elements_from (Transition node ∷ items) p t =
     record { id = node.id; role = Real (AtTransition t) } ∷ elements_from items p (t + 1)
 elements_from (RefPlace node ∷ items) p t =
-    record { id = node.id; role = Reference OfPlaces node.target } ∷ elements_from items p t
+    record { id = node.id; role = Reference NodeKind.Place node.target } ∷ elements_from items p t
 elements_from (RefTransition node ∷ items) p t =
-    record { id = node.id; role = Reference OfTransitions node.target } ∷ elements_from items p t
+    record { id = node.id; role = Reference NodeKind.Transition node.target } ∷ elements_from items p t
 elements_from (Arc arc ∷ items) p t = record { id = arc.id; role = NoNode } ∷ elements_from items p t
 
 -- the elements of a net
@@ -43,8 +42,8 @@ elements net = record { id = net.id; role = NoNode } ∷ elements_from net.items
 -- the kind of node that an element is, if it is one; a reference node has the kind of what it may represent
 abbrev pub kind_of : Role → Option NodeKind
 kind_of NoNode = None
-kind_of (Real (AtPlace p)) = Some OfPlaces
-kind_of (Real (AtTransition t)) = Some OfTransitions
+kind_of (Real (AtPlace p)) = Some NodeKind.Place
+kind_of (Real (AtTransition t)) = Some NodeKind.Transition
 kind_of (Reference kind target) = Some kind
 
 -- the id of an element and its kind of node
@@ -78,8 +77,8 @@ reference_of kind node = record { id = node.id; kind = kind; target = node.targe
 
 -- an item as a list of reference nodes: itself, or none
 abbrev pub references : Item → List ReferenceTo
-references (RefPlace node) = reference_of OfPlaces node ∷ []
-references (RefTransition node) = reference_of OfTransitions node ∷ []
+references (RefPlace node) = reference_of NodeKind.Place node ∷ []
+references (RefTransition node) = reference_of NodeKind.Transition node ∷ []
 references _ = []
 
 -- an item as a list of arcs: itself, or none

@@ -9,8 +9,8 @@ use Rattle.net_values.specs.declared.document.ArcNode.{ArcNode}
 use Rattle.net_values.specs.declared.flat_net.FlatPlace.{FlatPlace}
 use Rattle.net_values.specs.FlatNets.{NetLists, net_of, transition_ids}
 use Rattle.net_values.specs.Items.{is_arc}
-use Rattle.page_flatten.specs.declared.node.End.{End}
-use Rattle.page_flatten.specs.declared.node.End.TheVariants.{AtPlace, AtTransition}
+use Rattle.page_flatten.specs.declared.links.End.{End}
+use Rattle.page_flatten.specs.declared.links.End.TheVariants.{AtPlace, AtTransition}
 use Rattle.page_flatten.specs.Elements.{Element, elements, arcs}
 use Rattle.page_flatten.specs.Chains.{Resolves}
 

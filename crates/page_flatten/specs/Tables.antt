@@ -1,22 +1,24 @@
 -- Chains by the numbers of elements: what the code follows. The laws in proofs/ChainLaws.antt show that they
 -- end where the chains of ids end.
 use Rattle.std.specs.Prelude.{◌≡◌, ℕ, zero, suc, ◌+◌, ◌<◌, ◌≤◌, List, [], ◌∷◌, ◌++◌, Option, Some, None, slice_get, map, length, sum_by}
-use Rattle.std.specs.List.{AllZip, AllByRecursion}
+use Rattle.std.specs.List.{AllZip, AllByRecursion, flat_map}
 use Rattle.net_values.specs.declared.document.ArcNode.{ArcNode}
+use Rattle.net_values.specs.declared.document.NetTree.{NetTree}
 use Rattle.net_values.specs.declared.document.RefNode.{RefNode}
+use Rattle.net_values.specs.declared.limits.TheConstants.{MAX_PLACES, MAX_TRANSITIONS}
 use Rattle.net_values.specs.FlatNets.{NetLists, net_of, transition_ids, KeepsNodes}
 use Rattle.net_values.specs.declared.document.Item.{Item}
 use Rattle.net_values.specs.declared.document.Item.TheVariants.{Page, PageEnd, Place, Transition, RefPlace, RefTransition, Arc}
-use Rattle.page_flatten.specs.declared.node.NodeKind.TheVariants.{OfPlaces, OfTransitions}
 use Rattle.std.specs.Option.{option_to_list, IfSome}
-use Rattle.page_flatten.specs.declared.node.End.{End}
-use Rattle.page_flatten.specs.declared.node.NodeKind.{NodeKind}
-use Rattle.page_flatten.specs.declared.node.Link.{Link}
-use Rattle.page_flatten.specs.declared.node.Link.TheVariants.{Apart, Ends, Leads}
-use Rattle.page_flatten.specs.declared.node.End.TheVariants.{AtPlace, AtTransition}
+use Rattle.page_flatten.specs.declared.links.End.{End}
+use Rattle.net_values.specs.declared.node_kind.NodeKind.{NodeKind}
+use Rattle.page_flatten.specs.declared.links.Link.{Link}
+use Rattle.page_flatten.specs.declared.links.Link.TheVariants.{Apart, Ends, Leads}
+use Rattle.page_flatten.specs.declared.links.End.TheVariants.{AtPlace, AtTransition}
 use Rattle.page_flatten.specs.declared.fault.FlatFault.{FlatFault}
 use Rattle.page_flatten.specs.declared.fault.FlatFault.TheVariants.{NoMemory, DuplicateId, UnknownId, RefKind, RefCycle, ArcEnds}
-use Rattle.page_flatten.specs.Elements.{Element, Role, NoNode, Real, Reference, Mention, ReferenceTo}
+use Rattle.page_flatten.specs.Elements.{Element, Role, NoNode, Real, Reference, Mention, ReferenceTo, elements, entries}
+use Rattle.page_flatten.specs.Chains.{Resolves}
 use Rattle.page_flatten.specs.Rules.{IsKnown, NamesItsKind, IsPlaceAndTransition, IsFirstWithout}
 use Rattle.page_flatten.specs.Flat.{FlatArc, weight_between, flat_places, flat_transitions}
 
@@ -28,10 +30,10 @@ table_ids table = map (λ entry. entry.0) table
 abbrev pub item_entry : Item → Option (List ℕ × Option NodeKind)
 item_entry (Page page) = Some (page.id, None)
 item_entry PageEnd = None
-item_entry (Place node) = Some (node.id, Some OfPlaces)
-item_entry (Transition node) = Some (node.id, Some OfTransitions)
-item_entry (RefPlace node) = Some (node.id, Some OfPlaces)
-item_entry (RefTransition node) = Some (node.id, Some OfTransitions)
+item_entry (Place node) = Some (node.id, Some NodeKind.Place)
+item_entry (Transition node) = Some (node.id, Some NodeKind.Transition)
+item_entry (RefPlace node) = Some (node.id, Some NodeKind.Place)
+item_entry (RefTransition node) = Some (node.id, Some NodeKind.Transition)
 item_entry (Arc arc) = Some (arc.id, None)
 
 -- the element that begins with an item was numbered, and its id is that of no earlier one
@@ -94,6 +96,21 @@ pub record EndsById (table : List (List ℕ × Option NodeKind))
   pub occurs : slice_get table number ≡ Some (id, Some kind)
   pub ends : EndsAt links number end
 
+-- each end is a place or a transition of the net
+abbrev pub IsEndWithin : ℕ → ℕ → End → Type 0
+IsEndWithin places transitions (AtPlace p) = p < places
+IsEndWithin places transitions (AtTransition t) = t < transitions
+
+abbrev pub LinksStayWithin : ℕ → ℕ → List Link → Type 0
+LinksStayWithin places transitions links =
+    (n : ℕ) (end : End) → EndsAt links n end → IsEndWithin places transitions end
+
+-- chains end by number as they do by id, each at a place or a transition of the net
+pub record AreSettled (net : NetTree) (links : List Link) : Type 0 where
+  pub resolves : (id : List ℕ) (end : End) → EndsById (entries net) links id end → Resolves (elements net) id end
+  pub ends : (id : List ℕ) (end : End) → Resolves (elements net) id end → EndsById (entries net) links id end
+  pub within : LinksStayWithin (length (flat_map flat_places net.items)) (length (flat_map flat_transitions net.items)) links
+
 -- the chain from a reference node ends, by the tables
 abbrev pub ItsLinksEnd : List (List ℕ × Option NodeKind) → List Link → ReferenceTo → Type 0
 ItsLinksEnd table links reference = (end : End) × EndsById table links reference.target end
@@ -131,15 +148,6 @@ IsFirstMisjoined table links list (ArcEnds id) =
     (arc : ArcNode) × IsFirstWithout (LinksJoin table links) list arc × (arc.id ≡ id)
 IsFirstMisjoined table links list _ = ⊥
 
--- each end is a place or a transition of the net
-abbrev pub IsEndWithin : ℕ → ℕ → End → Type 0
-IsEndWithin places transitions (AtPlace p) = p < places
-IsEndWithin places transitions (AtTransition t) = t < transitions
-
-abbrev pub LinksStayWithin : ℕ → ℕ → List Link → Type 0
-LinksStayWithin places transitions links =
-    (n : ℕ) (end : End) → EndsAt links n end → IsEndWithin places transitions end
-
 -- the arc with its ends resolved, by the tables
 pub record IsResolvedBy (table : List (List ℕ × Option NodeKind))
     (links : List Link) (arc : ArcNode) (flat : FlatArc) : Type 0 where
@@ -174,8 +182,8 @@ pub record HasNoArcs (lists : NetLists) : Type 0 where
 
 -- an item more fits into the net
 pub record HasRoomFor (lists : NetLists) (item : Item) : Type 0 where
-  pub places : length lists.places + length (flat_places item) ≤ 2048
-  pub transitions : length lists.transitions + length (flat_transitions item) ≤ 2048
+  pub places : length lists.places + length (flat_places item) ≤ MAX_PLACES
+  pub transitions : length lists.transitions + length (flat_transitions item) ≤ MAX_TRANSITIONS
 
 -- the place or the transition that an item is was added to the net, and no arc
 pub record AddsNodes (old new : NetLists) (item : Item) : Type 0 where

@@ -2,17 +2,17 @@ ghost use Rattle.std.specs.Prelude.{◌≡◌, ◌≤◌, ◌+◌, ◌∷◌, []
 ghost use Rattle.std.specs.List.{AllByRecursion, flat_map};
 ghost use Rattle.net_values.specs.FlatNets.{net_of};
 ghost use Rattle.pnml_grammar.specs.Valued.{HasValuesInRange};
-ghost use Rattle.page_flatten.specs.declared.node.End.{End};
+ghost use Rattle.page_flatten.specs.declared.links.End.{End};
 ghost use Rattle.page_flatten.specs.Elements.{arcs};
 ghost use Rattle.page_flatten.specs.Rules.{AreDistinct};
 ghost use Rattle.page_flatten.specs.Tables.{table_ids, EndsById, LinksStayWithin, AddsArcs, IsFirstMisjoined, IsMisjoined};
-ghost use Rattle.page_flatten.specs.Joints.{joint_of};
+ghost use Rattle.page_flatten.specs.Joints.{IsJoint, joint_between};
 
 use crate::chains::end_of;
 use crate::fault::FlatFault;
-use crate::node::{End, Link};
+use crate::links::{End, Link};
 use crate::numbers::Numbers;
-use net_values::{ArcNode, FlatNet, Item, Text};
+use net_values::{ArcNode, FlatNet, Item, MAX_ARCS, Text};
 use std::alloc::Global;
 
 /// Adds the arcs among the items to the net, each between what its ends resolve to. The first one
@@ -28,7 +28,7 @@ pub fn add_arcs(
     requires within { let net = net_of net.old in
         LinksStayWithin net.places net.transitions links.now }
     requires values { AllByRecursion HasValuesInRange items.now }
-    requires room { net.old.arcs + length (flat_map arcs items.now) ≤ 65536 }
+    requires room { net.old.arcs + length (flat_map arcs items.now) ≤ MAX_ARCS }
     ensures ok { OnOk result
         (AddsArcs numbers.now links.now (flat_map arcs items.now) net.old net.new) }
     ensures fault { IfErr result
@@ -52,7 +52,7 @@ fn add_arc_of(
     requires within { let net = net_of net.old in
         LinksStayWithin net.places net.transitions links.now }
     requires values { HasValuesInRange item.now }
-    requires room { net.old.arcs + length (arcs item.now) ≤ 65536 }
+    requires room { net.old.arcs + length (arcs item.now) ≤ MAX_ARCS }
     ensures ok { OnOk result (AddsArcs numbers.now links.now (arcs item.now) net.old net.new) }
     ensures fault { IfErr result (IsFirstMisjoined numbers.now links.now (arcs item.now)) }
 {
@@ -75,13 +75,11 @@ fn add_arc(
     requires within { let net = net_of net.old in
         LinksStayWithin net.places net.transitions links.now }
     requires weight { 1 ≤ arc.now.weight }
-    requires room { net.old.arcs + 1 ≤ 65536 }
+    requires room { net.old.arcs + 1 ≤ MAX_ARCS }
     ensures ok { OnOk result (AddsArcs numbers.now links.now (arc.now ∷ []) net.old net.new) }
     ensures fault { IfErr result (IsMisjoined numbers.now links.now arc.now) }
 {
-    let source = resolved(&arc.source, numbers, links);
-    let target = resolved(&arc.target, numbers, links);
-    match joint_between(source, target) {
+    match joint_of(arc, numbers, links) {
         Joint::Input(p, t) => Ok(net.add_input(p, t, arc.weight)?),
         Joint::Output(t, p) => Ok(net.add_output(t, p, arc.weight)?),
         Joint::Neither => Err(FlatFault::ArcEnds(arc.id.copy(alloc)?)),
@@ -96,9 +94,19 @@ enum Joint {
     Neither,
 }
 
+/// What an arc joins.
+fn joint_of(arc: &ArcNode, numbers: &Numbers<'_>, links: &[Link]) -> Joint
+    requires { AreDistinct (table_ids numbers.now) }
+    ensures { IsJoint numbers.now links.now arc.now result }
+{
+    let source = resolved(&arc.source, numbers, links);
+    let target = resolved(&arc.target, numbers, links);
+    joint_between(source, target)
+}
+
 /// What an arc between these two joins.
 fn joint_between(source: Option<End>, target: Option<End>) -> Joint
-    ensures { result ≡ joint_of source target }
+    ensures { result ≡ joint_between source target }
 {
     match (source, target) {
         (Some(End::AtPlace(p)), Some(End::AtTransition(t))) => Joint::Input(p, t),

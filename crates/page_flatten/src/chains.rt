@@ -1,21 +1,41 @@
-ghost use Rattle.std.specs.Prelude.{◌≡◌, slice_index_or, MatchBool, IfSome, IfNone, OnOk, IfErr};
+ghost use Rattle.std.specs.Prelude.{◌≡◌, slice_index_or, MatchBool, IfSome, IfNone, IfOk, OnOk, IfErr};
 ghost use Rattle.std.specs.List.{AllByRecursion, flat_map};
-ghost use Rattle.page_flatten.specs.declared.node.End.{End};
-ghost use Rattle.page_flatten.specs.declared.node.Link.TheVariants.{Apart};
-ghost use Rattle.page_flatten.specs.Elements.{references};
-ghost use Rattle.page_flatten.specs.Rules.{AreDistinct};
-ghost use Rattle.page_flatten.specs.Tables.{table_ids, EndsAt, EndsById, HaveSameEnds, ItsLinksEnd, IsFirstEndless, IsEndless};
+ghost use Rattle.page_flatten.specs.declared.links.End.{End};
+ghost use Rattle.page_flatten.specs.declared.links.Link.TheVariants.{Apart};
+ghost use Rattle.page_flatten.specs.Elements.{entries, references};
+ghost use Rattle.page_flatten.specs.Rules.{AreDistinct, HasDistinctIds, MentionsNodes, KeepsKinds, EndsChains, IsAnswered};
+ghost use Rattle.page_flatten.specs.Tables.{table_ids, AreSettled, EndsAt, EndsById, HaveSameEnds, ItsLinksEnd, IsFirstEndless, IsEndless};
 
 use crate::fault::FlatFault;
-use crate::node::{End, Link};
+use crate::links::{End, Link, links};
 use crate::numbers::Numbers;
-use net_values::{Item, RefNode, Text};
+use net_values::{Item, NetTree, RefNode, Text};
 use std::alloc::Global;
+
+/// The links of a net's elements, where each chain of references ends: those of references lead
+/// straight to the ends. The first reference node whose chain doesn't end is refused.
+pub fn settled_links(
+    alloc: Global,
+    net: &NetTree,
+    numbers: &Numbers<'_>,
+) -> Result<Vec<Link>, FlatFault>
+    requires numbered { numbers.now ≡ entries net.now }
+    requires ids { HasDistinctIds net.now }
+    requires mentions { MentionsNodes net.now }
+    requires kinds { KeepsKinds net.now }
+    ensures settled { IfOk result (λ links. AreSettled net.now links.items) }
+    ensures chains { OnOk result (EndsChains net.now) }
+    ensures fault { IfErr result (IsAnswered net.now) }
+{
+    let mut links = links(alloc, net, numbers)?;
+    settle_references(alloc, net.items.as_slice(), numbers, links.as_mut_slice())?;
+    Ok(links)
+}
 
 /// Follows each reference node to the end of its chain, and lets the links of that chain lead
 /// straight to it, so that no link is followed often. The first reference node whose chain doesn't
 /// end is refused.
-pub fn settle_references(
+fn settle_references(
     alloc: Global,
     items: &[Item],
     numbers: &Numbers<'_>,

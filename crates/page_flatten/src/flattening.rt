@@ -4,12 +4,10 @@ ghost use Rattle.page_flatten.specs.Rules.{BreaksNoRule, IsAnswered};
 ghost use Rattle.page_flatten.specs.Flat.{Flat};
 
 use crate::arcs::add_arcs;
-use crate::chains::settle_references;
+use crate::chains::settled_links;
 use crate::fault::FlatFault;
-use crate::links::links;
-use crate::nodes::nodes;
-use crate::numbers::number;
-use crate::rules::{check_kinds, check_mentions};
+use crate::nodes::net_of_nodes;
+use crate::rules::checked_numbers;
 use net_values::{Document, FlatNet};
 use std::alloc::Global;
 
@@ -32,16 +30,13 @@ pub fn flatten(alloc: Global, document: &Document) -> Result<FlatNet, FlatFault>
     ensures fault { IfErr result (IsAnswered document.now.net) }
 {
     let tree = &document.net;
-    let numbers = match number(alloc, tree) {
+    let numbers = match checked_numbers(alloc, tree) {
         Ok(numbers) => numbers,
         Err(fault) => return Err(fault),
     };
+    let links = settled_links(alloc, tree, &numbers)?;
     let items = tree.items.as_slice();
-    check_mentions(alloc, items, &numbers)?;
-    check_kinds(alloc, items, &numbers)?;
-    let mut links = links(alloc, tree, &numbers)?;
-    settle_references(alloc, items, &numbers, links.as_mut_slice())?;
-    let mut net = nodes(alloc, items)?;
+    let mut net = net_of_nodes(alloc, items)?;
     add_arcs(alloc, items, &numbers, links.as_slice(), &mut net)?;
     Ok(net)
 }

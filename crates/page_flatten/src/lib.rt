@@ -8,7 +8,6 @@ mod fault;
 mod flattening;
 mod laws;
 mod links;
-mod node;
 mod nodes;
 mod numbers;
 mod rules;

@@ -4,9 +4,8 @@ ghost use Rattle.std.specs.Option.{option_to_list};
 ghost use Rattle.page_flatten.specs.Elements.{elements, elements_from, mentions};
 ghost use Rattle.page_flatten.specs.Rules.{AreDistinct, IsKnown};
 ghost use Rattle.page_flatten.specs.Tables.{table_ids, places_after, transitions_after, AreLinksOf};
-ghost use Rattle.page_flatten.specs.declared.node.NodeKind.{NodeKind};
+ghost use Rattle.net_values.specs.declared.node_kind.NodeKind.{NodeKind};
 
-use crate::node::{End, Link};
 use crate::numbers::Numbers;
 use net_values::{Item, NetTree, NoMemory, Text};
 use std::alloc::Global;
@@ -31,6 +30,22 @@ pub fn links(alloc: Global, net: &NetTree, numbers: &Numbers<'_>) -> Result<Vec<
         next = next_after(item, next);
     }
     Ok(links)
+}
+
+/// What an element is to a chain of references: no node, a place or a transition, or a reference
+/// that leads on to the element of a number.
+#[derive(Clone, Copy)]
+pub enum Link {
+    Apart,
+    Ends(End),
+    Leads(usize),
+}
+
+/// What a chain of references ends in: a place or a transition, by its number in document order.
+#[derive(Clone, Copy)]
+pub enum End {
+    AtPlace(usize),
+    AtTransition(usize),
 }
 
 /// The numbers of the next place and of the next transition.

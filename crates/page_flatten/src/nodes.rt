@@ -5,13 +5,13 @@ ghost use Rattle.net_values.specs.Items.{is_place, is_transition};
 ghost use Rattle.page_flatten.specs.Flat.{flat_places, flat_transitions};
 ghost use Rattle.page_flatten.specs.Tables.{HasNoArcs, AddsNodes, HasRoomFor};
 
-use net_values::{FlatNet, Item, NoMemory};
+use net_values::{FlatNet, Item, MAX_PLACES, MAX_TRANSITIONS, NoMemory};
 use std::alloc::Global;
 
 /// The net of the places and transitions among the items, without arcs.
-pub fn nodes(alloc: Global, items: &[Item]) -> Result<FlatNet, NoMemory>
-    requires places { count_by is_place items.now ≤ 2048 }
-    requires transitions { count_by is_transition items.now ≤ 2048 }
+pub fn net_of_nodes(alloc: Global, items: &[Item]) -> Result<FlatNet, NoMemory>
+    requires places { count_by is_place items.now ≤ MAX_PLACES }
+    requires transitions { count_by is_transition items.now ≤ MAX_TRANSITIONS }
     ensures places { IfOk result (λ net. net.places ≡ flat_map flat_places items.now) }
     ensures transitions { IfOk result
         (λ net. transition_ids net ≡ flat_map flat_transitions items.now) }

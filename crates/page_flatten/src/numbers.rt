@@ -5,9 +5,8 @@ ghost use Rattle.page_flatten.specs.Rules.{AreDistinct, IsAnswered};
 ghost use Rattle.page_flatten.specs.Tables.{table_ids, item_entry};
 
 use crate::fault::FlatFault;
-use crate::node::NodeKind;
 use indexmap::IndexMap;
-use net_values::{Item, NetTree, NoMemory, Text};
+use net_values::{Item, NetTree, NoMemory, NodeKind, Text};
 use std::alloc::Global;
 use std::marker::Model;
 
@@ -20,7 +19,7 @@ pub struct Numbers<'d> {
 
 impl<'d> Model for Numbers<'d> {
     ghost use Rattle.std.specs.Prelude.{List, ℕ, Option, map};
-    ghost use Rattle.page_flatten.specs.declared.node.NodeKind.{NodeKind};
+    ghost use Rattle.net_values.specs.declared.node_kind.NodeKind.{NodeKind};
 
     ghost Value = { List (List ℕ × Option NodeKind) };
 
@@ -29,7 +28,7 @@ impl<'d> Model for Numbers<'d> {
 
 impl<'d> Numbers<'d> {
     ghost use Rattle.std.specs.Prelude.{◌≡◌, ℕ, [], ◌∷◌, ◌++◌, Some, IfSome, IfNone, IfOk, IfErr, OnOk, MatchBool, slice_get};
-    ghost use Rattle.page_flatten.specs.declared.node.NodeKind.{NodeKind};
+    ghost use Rattle.net_values.specs.declared.node_kind.NodeKind.{NodeKind};
     ghost use Rattle.page_flatten.specs.Rules.{AreDistinct};
     ghost use Rattle.page_flatten.specs.Tables.{table_ids, item_entry, IsNumbered, IsRepeated};
 
@@ -95,7 +94,7 @@ impl<'d> Numbers<'d> {
 
 /// Numbers the elements of a net: the net, then its pages, nodes and arcs in document order. The
 /// first one whose id an earlier element has is refused.
-pub fn number<'d>(alloc: Global, net: &'d NetTree) -> Result<Numbers<'d>, FlatFault>
+pub fn number_elements<'d>(alloc: Global, net: &'d NetTree) -> Result<Numbers<'d>, FlatFault>
     ensures numbered { IfOk result (λ numbers. numbers ≡ entries net.now) }
     ensures distinct { IfOk result (λ numbers. AreDistinct (table_ids numbers)) }
     ensures fault { IfErr result (IsAnswered net.now) }
@@ -128,8 +127,8 @@ impl<'d> Entry<'d> {
 fn entry_of_item(item: &Item) -> Option<Entry<'_>>
     ensures { option_map (λ entry. (entry.id.now, entry.kind)) result ≡ item_entry item.now }
 {
-    let places = Some(NodeKind::OfPlaces);
-    let transitions = Some(NodeKind::OfTransitions);
+    let places = Some(NodeKind::Place);
+    let transitions = Some(NodeKind::Transition);
     match item {
         Item::Page(page) => Some(Entry::new(&page.id, None)),
         Item::PageEnd => None,

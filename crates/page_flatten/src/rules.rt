@@ -1,17 +1,36 @@
-ghost use Rattle.std.specs.Prelude.{◌∷◌, [], MatchBool, OnOk, IfErr};
+ghost use Rattle.std.specs.Prelude.{◌≡◌, ◌∷◌, [], MatchBool, IfOk, OnOk, IfErr};
 ghost use Rattle.std.specs.List.{AllByRecursion, flat_map};
-ghost use Rattle.page_flatten.specs.Elements.{mentions, references, reference_of};
-ghost use Rattle.page_flatten.specs.Rules.{AreDistinct, NamesNode, IsKnown, NamesItsKind};
+ghost use Rattle.page_flatten.specs.Elements.{entries, mentions, references, reference_of};
+ghost use Rattle.page_flatten.specs.Rules.{AreDistinct, HasDistinctIds, MentionsNodes, KeepsKinds, IsAnswered, NamesNode, IsKnown, NamesItsKind};
 ghost use Rattle.page_flatten.specs.Tables.{table_ids, IsFirstUnknown, IsFirstOfWrongKind};
 
 use crate::fault::FlatFault;
-use crate::node::NodeKind;
-use crate::numbers::Numbers;
-use net_values::{Item, RefNode, Text};
+use crate::numbers::{Numbers, number_elements};
+use net_values::{Item, NetTree, NodeKind, RefNode, Text};
 use std::alloc::Global;
 
+/// The numbers of a net's elements, where its ids are distinct, each `ref`, `source` and `target` is
+/// the id of a node, and each reference names a node of its kind. The first of these rules that is
+/// broken is refused.
+pub fn checked_numbers<'d>(alloc: Global, net: &'d NetTree) -> Result<Numbers<'d>, FlatFault>
+    ensures numbered { IfOk result (λ numbers. numbers ≡ entries net.now) }
+    ensures ids { OnOk result (HasDistinctIds net.now) }
+    ensures mentions { OnOk result (MentionsNodes net.now) }
+    ensures kinds { OnOk result (KeepsKinds net.now) }
+    ensures fault { IfErr result (IsAnswered net.now) }
+{
+    let numbers = match number_elements(alloc, net) {
+        Ok(numbers) => numbers,
+        Err(fault) => return Err(fault),
+    };
+    let items = net.items.as_slice();
+    check_mentions(alloc, items, &numbers)?;
+    check_kinds(alloc, items, &numbers)?;
+    Ok(numbers)
+}
+
 /// Refuses the first `ref`, `source` or `target` that is the id of no node.
-pub fn check_mentions(alloc: Global, items: &[Item], numbers: &Numbers<'_>) -> Result<(), FlatFault>
+fn check_mentions(alloc: Global, items: &[Item], numbers: &Numbers<'_>) -> Result<(), FlatFault>
     requires { AreDistinct (table_ids numbers.now) }
     ensures ok { OnOk result (AllByRecursion (IsKnown numbers.now) (flat_map mentions items.now)) }
     ensures fault { IfErr result (IsFirstUnknown numbers.now (flat_map mentions items.now)) }
@@ -58,7 +77,7 @@ fn check_mention(
 }
 
 /// Refuses the first reference node that names a node of the other kind.
-pub fn check_kinds(alloc: Global, items: &[Item], numbers: &Numbers<'_>) -> Result<(), FlatFault>
+fn check_kinds(alloc: Global, items: &[Item], numbers: &Numbers<'_>) -> Result<(), FlatFault>
     requires { AreDistinct (table_ids numbers.now) }
     ensures ok { OnOk result
         (AllByRecursion (NamesItsKind numbers.now) (flat_map references items.now)) }
@@ -77,8 +96,8 @@ fn check_kind_of(alloc: Global, item: &Item, numbers: &Numbers<'_>) -> Result<()
     ensures fault { IfErr result (IsFirstOfWrongKind numbers.now (references item.now)) }
 {
     match item {
-        Item::RefPlace(node) => check_kind(alloc, node, NodeKind::OfPlaces, numbers),
-        Item::RefTransition(node) => check_kind(alloc, node, NodeKind::OfTransitions, numbers),
+        Item::RefPlace(node) => check_kind(alloc, node, NodeKind::Place, numbers),
+        Item::RefTransition(node) => check_kind(alloc, node, NodeKind::Transition, numbers),
         _ => Ok(()),
     }
 }

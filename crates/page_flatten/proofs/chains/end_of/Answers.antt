@@ -1,4 +1,4 @@
-use Rattle.page_flatten.specs.declared.node.Link.TheVariants.{Apart, Ends, Leads}
+use Rattle.page_flatten.specs.declared.links.Link.TheVariants.{Apart, Ends, Leads}
 use Rattle.page_flatten.proofs.Lists.{read_or, read_or_none}
 use Rattle.page_flatten.proofs.ChainLaws.{followed_more, followed_all, followed_off}
 use Rattle.page_flatten.proofs.chains.end_of.Goals as goal

@@ -1,5 +1,5 @@
 use Rattle.std.proofs.Common.{◌≡◌, Some, slice_get, arith}
-use Rattle.page_flatten.specs.declared.node.Link.TheVariants.{Apart, Leads}
+use Rattle.page_flatten.specs.declared.links.Link.TheVariants.{Apart, Leads}
 use Rattle.page_flatten.proofs.Lists.{read_or}
 use Rattle.page_flatten.proofs.ChainLaws.{open_fewer, same_ends_set, same_ends_then, goes_on}
 use Rattle.page_flatten.proofs.chains.settle.Goals as goal

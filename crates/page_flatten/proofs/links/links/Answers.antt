@@ -2,7 +2,7 @@ use Rattle.std.proofs.Common.{◌≡◌, sym, ap, ◌∙◌, subst, List, [], �
 use Rattle.std.specs.Option.{option_to_list}
 use Rattle.std.proofs.lemmas.List.{append-nil}
 use Rattle.net_values.specs.declared.document.Item.{Item}
-use Rattle.page_flatten.specs.declared.node.Link.{Link}
+use Rattle.page_flatten.specs.declared.links.Link.{Link}
 use Rattle.page_flatten.proofs.LinkLaws.{AreLinksUpTo, links_none, links_more, links_all, known_here}
 use Rattle.page_flatten.proofs.links.links.Goals as goal
 use Rattle.page_flatten.proofs.links.links.Goals.{in-Some+in_ok-push-2, in_default}

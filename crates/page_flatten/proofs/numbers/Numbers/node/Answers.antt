@@ -1,5 +1,5 @@
 use Rattle.std.proofs.Common.{◌≡◌, ◌∙◌, ap, ℕ, Some, slice_get}
-use Rattle.page_flatten.specs.declared.node.NodeKind.{NodeKind}
+use Rattle.net_values.specs.declared.node_kind.NodeKind.{NodeKind}
 use Rattle.page_flatten.proofs.Lists.{where_none}
 use Rattle.page_flatten.proofs.Numbering.{id_at, no_node}
 use Rattle.page_flatten.proofs.numbers.Numbers.node.Goals as goal

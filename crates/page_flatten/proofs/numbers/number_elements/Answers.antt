@@ -3,7 +3,7 @@ use Rattle.net_values.specs.declared.document.Item.{Item}
 use Rattle.page_flatten.specs.Rules.{IsAnswered}
 use Rattle.page_flatten.proofs.FaultLaws.{err_goes}
 use Rattle.page_flatten.proofs.LinkLaws.{numbers_none, numbers_more, repeated_answered}
-use Rattle.page_flatten.proofs.numbers.number.Goals as goal
+use Rattle.page_flatten.proofs.numbers.number_elements.Goals as goal
 
 pub loop-item-init : goal.loop-item-init
 loop-item-init c = numbers_none c.args.net.now c.in_ok-add.field-0 c.add.new.self (rw (c.new-numbers.ensures) at c.in_ok-add.ensures)

@@ -1,5 +1,5 @@
 use Rattle.page_flatten.proofs.NodeLaws.{nodes_more, nodes_all, room_for}
-use Rattle.page_flatten.proofs.nodes.nodes.Goals as goal
+use Rattle.page_flatten.proofs.nodes.net_of_nodes.Goals as goal
 
 pub add_node-requires : goal.add_node-requires
 add_node-requires c =
