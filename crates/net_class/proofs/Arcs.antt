@@ -1,4 +1,4 @@
--- The arcs of a transition on one side, as the list of its places with their weights: the weights are read
+-- The arcs to a transition, or from it, as the list of its places with their weights: the weights are read
 -- off the list, and there is exactly one place where the list has one entry.
 use Rattle.std.proofs.Common.{◌≡◌, refl, ap, ◌∙◌, sym, subst, ℕ, zero, suc, ◌<◌, ◌≤◌, List, [], ◌∷◌, length, get_or, All, inl, inr, arith}
 use Rattle.std.proofs.lemmas.Bool.{cases_lt}

@@ -1,5 +1,5 @@
 -- The definitions that the contracts of this crate cite.
 pub mod Classes
-pub mod Sides
+pub mod Neighbours
 pub mod Owners
 pub mod Verdicts

@@ -4,8 +4,8 @@ ghost use Rattle.closed_sets.specs.Commoner.{IsOrdinary};
 ghost use Rattle.net_class.specs.Classes.{IsStateMachine, IsMarkedGraph, IsFreeChoice};
 
 use crate::membership::Class;
+use crate::neighbours::Neighbours;
 use crate::places::have_one_transition;
-use crate::side::Side;
 use crate::takers::choices_are_free;
 use crate::transitions::{have_one_place, have_unit_weights};
 use net_values::FlatNet;
@@ -37,7 +37,7 @@ pub fn class(net: &FlatNet) -> Class
 fn is_ordinary(net: &FlatNet) -> bool
     ensures { IsTrue result ↔ IsOrdinary (net_of net.now) }
 {
-    have_unit_weights(Side::Input, net) && have_unit_weights(Side::Output, net)
+    have_unit_weights(Neighbours::Inputs, net) && have_unit_weights(Neighbours::Outputs, net)
 }
 
 /// Whether an ordinary net is a state machine.
@@ -45,7 +45,7 @@ fn is_state_machine(net: &FlatNet) -> bool
     requires { IsOrdinary (net_of net.now) }
     ensures { IsTrue result ↔ IsStateMachine (net_of net.now) }
 {
-    have_one_place(Side::Input, net) && have_one_place(Side::Output, net)
+    have_one_place(Neighbours::Inputs, net) && have_one_place(Neighbours::Outputs, net)
 }
 
 /// Whether an ordinary net is a marked graph.
@@ -53,5 +53,5 @@ fn is_marked_graph(net: &FlatNet) -> bool
     requires { IsOrdinary (net_of net.now) }
     ensures { IsTrue result ↔ IsMarkedGraph (net_of net.now) }
 {
-    have_one_transition(Side::Input, net) && have_one_transition(Side::Output, net)
+    have_one_transition(Neighbours::Inputs, net) && have_one_transition(Neighbours::Outputs, net)
 }

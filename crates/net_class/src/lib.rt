@@ -4,9 +4,9 @@
 
 mod classes;
 mod membership;
+mod neighbours;
 mod owners;
 mod places;
-mod side;
 mod takers;
 #[cfg(test)]
 mod tests;

@@ -4,9 +4,6 @@ ghost use Rattle.net_class.specs.Owners.{owner_at, IsOwned, NoneIsOwned};
 
 use net_values::WeightedPlace;
 
-/// The most places that a net has.
-pub(crate) const MOST_PLACES: usize = 2_048;
-
 /// The owner of the first place of the entries that has one.
 pub(crate) fn first_owner(entries: &[WeightedPlace], owners: &[Option<usize>]) -> Option<usize>
     requires { All (λ entry. entry.place < length owners.now) entries.now }

@@ -2,32 +2,32 @@ ghost use Rattle.std.specs.Prelude.{◌≡◌, ◌≤◌, ◌↔◌, All, IsTrue
 ghost use Rattle.net_values.specs.FlatNets.{net_of};
 ghost use Rattle.net_class.specs.Classes.{OneTransitionEach};
 ghost use Rattle.net_class.specs.Owners.{AreOwners, HasTwoTransitions};
-ghost use Rattle.net_class.specs.Sides.{weights_of};
+ghost use Rattle.net_class.specs.Neighbours.{weights_of};
 
-use crate::owners::{MOST_PLACES, first_owner, own};
-use crate::side::Side;
-use net_values::FlatNet;
+use crate::neighbours::Neighbours;
+use crate::owners::{first_owner, own};
+use net_values::{FlatNet, MAX_PLACES};
 
-/// Whether each place is joined to exactly one transition on this side.
-pub(crate) fn have_one_transition(side: Side, net: &FlatNet) -> bool
-    ensures { IsTrue result ↔ OneTransitionEach (net_of net.now) (weights_of side (net_of net.now)) }
+/// Whether each place is joined to exactly one transition by these arcs.
+pub(crate) fn have_one_transition(neighbours: Neighbours, net: &FlatNet) -> bool
+    ensures { IsTrue result ↔ OneTransitionEach (net_of net.now) (weights_of neighbours (net_of net.now)) }
 {
-    let mut room = [None; MOST_PLACES];
+    let mut room = [None; MAX_PLACES];
     let owners = &mut room[..net.places()];
-    own_all(side, net, owners) && are_owned(owners)
+    own_all(neighbours, net, owners) && are_owned(owners)
 }
 
-/// Makes each transition the owner of its places on this side. Gives up where a place has a second one.
-fn own_all(side: Side, net: &FlatNet, owners: &mut [Option<usize>]) -> bool
+/// Makes each transition the owner of these neighbours. Gives up where a place has a second one.
+fn own_all(neighbours: Neighbours, net: &FlatNet, owners: &mut [Option<usize>]) -> bool
     requires size { length owners.old ≡ (net_of net.now).places }
     requires none { All (λ owner. owner ≡ None) owners.old }
     ensures size { length owners.new ≡ (net_of net.now).places }
-    ensures owners { let net = net_of net.now in let weights = weights_of side net in
+    ensures owners { let net = net_of net.now in let weights = weights_of neighbours net in
         MatchBool result (AreOwners net weights (λ t u. t ≡ u) net.transitions owners.new)
         (HasTwoTransitions net weights) }
 {
     for t in 0..net.transitions() {
-        let entries = side.arcs(net, t);
+        let entries = neighbours.arcs(net, t);
         if first_owner(entries, owners).is_some() {
             return false;
         }

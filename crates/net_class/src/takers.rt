@@ -3,18 +3,18 @@ ghost use Rattle.net_values.specs.FlatNets.{net_of};
 ghost use Rattle.closed_sets.specs.Commoner.{IsOrdinary};
 ghost use Rattle.net_class.specs.Classes.{IsFreeChoice, HaveSameInputs};
 ghost use Rattle.net_class.specs.Owners.{AreOwners, HasUnlike};
-ghost use Rattle.net_class.specs.Sides.{TakesWithin};
+ghost use Rattle.net_class.specs.Neighbours.{TakesWithin};
 
-use crate::owners::{MOST_PLACES, first_owner, own};
-use crate::side::Side;
-use net_values::FlatNet;
+use crate::neighbours::Neighbours;
+use crate::owners::{first_owner, own};
+use net_values::{FlatNet, MAX_PLACES};
 
 /// Whether an ordinary net is free-choice.
 pub(crate) fn choices_are_free(net: &FlatNet) -> bool
     requires { IsOrdinary (net_of net.now) }
     ensures { IsTrue result ↔ IsFreeChoice (net_of net.now) }
 {
-    let mut room = [None; MOST_PLACES];
+    let mut room = [None; MAX_PLACES];
     join_all(net, &mut room[..net.places()])
 }
 
@@ -43,7 +43,7 @@ fn join(net: &FlatNet, t: usize, owners: &mut [Option<usize>]) -> bool
         MatchBool result (AreOwners net net.pre (HaveSameInputs net) (t + 1) owners.new)
         (HasUnlike net) }
 {
-    let inputs = Side::Input.arcs(net, t);
+    let inputs = Neighbours::Inputs.arcs(net, t);
     match first_owner(inputs, owners) {
         Some(owner) => have_same_inputs(net, t, owner),
         None => {
@@ -68,7 +68,7 @@ fn takes_within(net: &FlatNet, t: usize, u: usize) -> bool
     requires second { u < (net_of net.now).transitions }
     ensures { IsTrue result ↔ TakesWithin (net_of net.now) t u }
 {
-    let entries = Side::Input.arcs(net, t);
+    let entries = Neighbours::Inputs.arcs(net, t);
     for entry in entries {
         if net.pre(entry.place, u) == 0 {
             return false;

@@ -1,14 +1,16 @@
--- A siphon belongs to a class exactly where it contains the one set and lies in the complement of the other,
--- so some siphon belongs to it exactly where the greatest siphon in the complement contains the one set.
+-- The greatest siphon in the complement of the avoided set tells whether a class is live. Two greatest siphons
+-- in it contain each other, so it doesn't matter which is looked at.
 use Rattle.std.proofs.Common.{◌≡◌, ◌↔◌, sym, ◌∙◌, ℕ, ◌<◌, List, Bool, false, IsTrue, not, length, inl, inr, arith}
 use Rattle.std.proofs.lemmas.Bool.{cases_lt}
 use Rattle.std.proofs.lemmas.List.{get_or_past}
 use Rattle.net_values.specs.Net.{Net}
-use Rattle.net_values.specs.PlaceSets.{has, IsSubset}
-use Rattle.closed_sets.specs.ClosedSets.{IsWithin, IsGreatestSiphon}
-use Rattle.closed_sets.proofs.Below.{cases_bool, apart, not_true, not_false}
+use Rattle.net_values.specs.PlaceSets.{complement, has, IsEmpty, IsSubset}
+use Rattle.net_values.proofs.PlaceSets.{complement_has}
+use Rattle.closed_sets.specs.ClosedSets.{IsWithin, IsNonempty, IsGreatestSiphon}
+use Rattle.closed_sets.proofs.Below.{apart, any_at, any_from}
+use Rattle.closed_sets.proofs.SmallerSiphons.{nonempty_from, nonempty_not}
 use Rattle.siphon_branch.specs.declared.branch.Branch.{Branch}
-use Rattle.siphon_branch.specs.Classes.{HasSize, IsLive}
+use Rattle.siphon_branch.specs.Classes.{HasSize, IsLiveClass}
 
 -- the places outside the net are in no set of its size
 pub has_within : (n : ℕ) (members : List Bool) (p : ℕ) → length members ≡ n → IsTrue (has members p) → p < n
@@ -18,27 +20,36 @@ has_within n members p size member =
       | inr past ↦ absurd (apart (has members p) member (get_or_past members p false (omega arith)))
     ]
 
-pub live_exact : (net : Net) (class : Branch) (others found : List Bool) (live : Bool) → HasSize net.places class → ((p : ℕ) → p < length class.avoids → has others p ≡ not (has class.avoids p)) → IsGreatestSiphon net (has others) (has found) → IsTrue live ↔ IsSubset class.contains found → IsTrue live ↔ IsLive net class
-live_exact net class others found live size complement greatest decides = (
-  λ holds. (
-    has found,
-    greatest.siphon,
-    record {
+-- the greatest siphon in one of two sets with the same places is that in the other
+greatest_same : (net : Net) (U U' G : ℕ → Bool) → ((p : ℕ) → p < net.places → U p ≡ U' p) → IsGreatestSiphon net U G → IsGreatestSiphon net U' G
+greatest_same net U U' G same greatest = record {
+  siphon = greatest.siphon;
+  within = λ p below member. sym (same p below) ∙ greatest.within p below member;
+  greatest = λ S siphon within. greatest.greatest S siphon (λ p below member. same p below ∙ within p below member);
+}
+
+nonempty_in : (net : Net) (S U : ℕ → Bool) → IsWithin net S U → IsNonempty net S → IsNonempty net U
+nonempty_in net S U within some = let at = any_from net.places S some in any_at net.places U at.0 at.1 (within at.0 at.1 at.2)
+
+module _ (net : Net) (class : Branch) (found : List Bool) (size : HasSize net.places class) (greatest : IsGreatestSiphon net (has (complement class.avoids)) (has found)) where
+  greatest' : IsGreatestSiphon net (λ p. not (has class.avoids p)) (has found)
+  greatest' = greatest_same net (has (complement class.avoids)) (λ p. not (has class.avoids p)) (has found) (λ p below. complement_has class.avoids p (omega (arith, size.avoids))) greatest
+
+  in_found : (live : IsLiveClass net (has class.contains) (has class.avoids)) → IsWithin net live.greatest (has found)
+  in_found live = greatest'.greatest live.greatest live.is_greatest.siphon live.is_greatest.within
+
+  pub live_empty : IsEmpty found → IsLiveClass net (has class.contains) (has class.avoids) → ⊥
+  live_empty none live = nonempty_not net (has found) none (nonempty_in net live.greatest (has found) (in_found live) live.nonempty)
+
+  pub live_exact : (inside : Bool) → length found ≡ net.places → (IsEmpty found → ⊥) → IsTrue inside ↔ IsSubset class.contains found → IsTrue inside ↔ IsLiveClass net (has class.contains) (has class.avoids)
+  live_exact inside size' some decides = (
+    λ holds. record {
+      greatest = has found;
+      is_greatest = greatest';
+      nonempty = nonempty_from net found size' some;
       has_all = λ p below member. decides.0 holds p member;
-      has_none = λ p below avoided. elim (cases_bool (has found p)) [
-        | inl member ↦ absurd (apart (has class.avoids p) avoided (not_false _ (sym (complement p (omega (arith, size.avoids))) ∙ greatest.within p below member)))
-        | inr none ↦ none
-      ];
     },
-  ),
-  λ some.
-      let S = some.0 in
-      let inside : IsWithin net S (has others) =
-      λ p below member. complement p (omega (arith, size.avoids)) ∙ not_true (has class.avoids p) (elim (cases_bool (has class.avoids p)) [
-        | inl avoided ↦ absurd (apart (S p) member (some.2.has_none p below avoided))
-        | inr none ↦ none
-      ]) in
-      decides.1 (λ p member.
+    λ live. decides.1 (λ p member.
       let below = has_within net.places class.contains p size.contains member in
-      greatest.greatest S some.1 inside p below (some.2.has_all p below member)),
-)
+      in_found live p below (live.has_all p below member)),
+  )

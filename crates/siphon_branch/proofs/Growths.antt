@@ -1,8 +1,8 @@
 -- The step of a growth. The lowest open transition and the lowest of its input places in the siphon are
 -- determined, so a siphon is grown in a class exactly where it is the contained set itself, or is grown in
 -- the one part whose place is that input place.
-use Rattle.std.proofs.Common.{◌≡◌, refl, sym, subst, ℕ, ◌<◌, ◌==◌, ◌||◌, ◌⊎◌, Bool, true, false, IsTrue, ltb, inl, inr, arith}
-use Rattle.std.proofs.lemmas.Bool.{or_cases, or_left, or_right, cases_lt, true≢false, false≢true, eq-eqb, eqb-true, lt-ltb, ltb-true}
+use Rattle.std.proofs.Common.{◌≡◌, refl, sym, subst, ℕ, ◌<◌, ◌==◌, ◌||◌, Bool, false, IsTrue, ltb, inl, inr, arith}
+use Rattle.std.proofs.lemmas.Bool.{or_cases, or_left, or_right, eq-eqb, eqb-true, lt-ltb, ltb-true}
 use Rattle.net_values.specs.Net.{Net}
 use Rattle.closed_sets.specs.ClosedSets.{IsSiphon, IsWithin}
 use Rattle.closed_sets.specs.Growth.{IsFirst, is_open, is_input_in, with_place, Belongs, GrowsWhole, whole, more}

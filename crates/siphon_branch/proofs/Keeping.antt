@@ -5,7 +5,8 @@ use Rattle.std.proofs.lemmas.List.Elements.{Contains-push, Contains-push_cases, 
 use Rattle.net_values.specs.Net.{Net}
 use Rattle.net_values.specs.PlaceSets.{has}
 use Rattle.closed_sets.specs.ClosedSets.{IsMinimalSiphon}
-use Rattle.siphon_branch.specs.Met.{AreDistinct, IsListOf}
+use Rattle.siphon_branch.specs.Limits.{AreDistinct}
+use Rattle.siphon_branch.specs.Met.{IsListOf}
 use Rattle.siphon_branch.proofs.Lists.{distinct_append, distinct_one, contains_one, contains_none}
 
 abbrev pub IsKept : Net → List (List Bool) → ℕ → List Bool → Type 0

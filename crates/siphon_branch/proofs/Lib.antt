@@ -7,3 +7,5 @@ pub mod Keeping
 pub mod MinimalGrown
 pub mod Sorting
 pub mod LiveClasses
+pub mod Limits
+pub mod TrapLists

@@ -4,7 +4,8 @@ use Rattle.std.proofs.Common.{◌≡◌, refl, sym, ap, ◌∙◌, subst, ℕ, �
 use Rattle.std.proofs.lemmas.Bool.{cases_lt}
 use Rattle.std.proofs.lemmas.List.{get_or_append_left, get_or-append_right, append-nil, get_or_default}
 use Rattle.std.proofs.lemmas.List.Elements.{Contains-append_left, Contains-append_right, Contains-append_cases}
-use Rattle.siphon_branch.specs.Met.{AreDistinct, Adds, AddsSome}
+use Rattle.siphon_branch.specs.Limits.{AreDistinct}
+use Rattle.siphon_branch.specs.Met.{Adds, AddsSome}
 
 contains_at : {X : Type 0} (xs : List X) (i : ℕ) (d : X) → i < length xs → Contains xs (get_or xs i d)
 contains_at xs i d within = (i, within, get_or_default xs i (get_or xs i d) d within)

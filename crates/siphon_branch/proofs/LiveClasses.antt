@@ -19,29 +19,30 @@ avoided_not net avoids U S outside' within p below avoided =
     ]
 
 pub live_grown : (net : Net) → LiveClassesHaveGrown net
-live_grown net contains avoids U greatest some within =
+live_grown net contains avoids live =
+    let U = live.greatest in
     elim (cases_bool (any_below net.places contains)) [
       | inl filled ↦
-          let grown = grows_in (suc (outside net.places contains)) net U contains greatest.siphon within (omega arith) in (
+          let grown = grows_in (suc (outside net.places contains)) net U contains live.is_greatest.siphon live.has_all (omega arith) in (
             grown.S,
             record {
               siphon = grown.siphon;
-              belongs = record { has_all = grown.contains; has_none = avoided_not net avoids U grown.S greatest.within grown.within };
+              belongs = record { has_all = grown.contains; has_none = avoided_not net avoids U grown.S live.is_greatest.within grown.within };
               grows = inl (filled, grown.grows);
             },
           )
       | inr empty ↦ elim (first_of net.places U) [
-        | inr none ↦ let at = any_from net.places U some in absurd (apart (U at.0) at.2 (none at.0 at.1))
+        | inr none ↦ let at = any_from net.places U live.nonempty in absurd (apart (U at.0) at.2 (none at.0 at.1))
         | inl first ↦
             let p = first.0 in
-            let grown = grows_in (suc (outside net.places (only_place p))) net U (only_place p) greatest.siphon
+            let grown = grows_in (suc (outside net.places (only_place p))) net U (only_place p) live.is_greatest.siphon
             (λ q below same. subst (λ (r : ℕ). IsTrue (U r)) (sym (eqb-true q p same)) first.1.passes) (omega arith) in (
               grown.S,
               record {
                 siphon = grown.siphon;
                 belongs = record {
                   has_all = λ q below member. absurd (apart (any_below net.places contains) (any_at net.places contains q below member) empty);
-                  has_none = avoided_not net avoids U grown.S greatest.within grown.within;
+                  has_none = avoided_not net avoids U grown.S live.is_greatest.within grown.within;
                 };
                 grows = inr (
                   λ filled. apart (any_below net.places contains) filled empty,

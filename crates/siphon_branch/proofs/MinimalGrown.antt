@@ -1,11 +1,11 @@
 -- A set in a siphon grows to a whole siphon in it: while a transition is open it has an input place in the
 -- siphon, and each step leaves one place less outside. A minimal siphon contains what grows from its lowest
 -- place, and so is grown.
-use Rattle.std.proofs.Common.{◌≡◌, refl, sym, subst, ℕ, zero, suc, ◌<◌, ◌==◌, ◌⊎◌, Bool, false, IsTrue, ltb, inl, inr, arith}
-use Rattle.std.proofs.lemmas.Bool.{or_cases, or_left, or_right, cases_eq, eq-eqb, eqb-true, ltb-true}
+use Rattle.std.proofs.Common.{◌≡◌, refl, sym, subst, ℕ, zero, suc, ◌<◌, ◌==◌, Bool, false, IsTrue, ltb, inl, inr, arith}
+use Rattle.std.proofs.lemmas.Bool.{or_cases, or_left, or_right, eq-eqb, eqb-true, ltb-true}
 use Rattle.net_values.specs.Net.{Net}
 use Rattle.closed_sets.specs.ClosedSets.{has_input_in, has_output_in, IsSiphon, IsWithin, IsMinimalSiphon}
-use Rattle.closed_sets.specs.Growth.{IsFirst, is_open, is_input_in, with_place, only_place, GrowsWhole, whole, more, IsGrown}
+use Rattle.closed_sets.specs.Growth.{is_open, is_input_in, with_place, only_place, GrowsWhole, whole, more, IsGrown}
 use Rattle.closed_sets.proofs.Below.{cases_bool, apart, both, both_left, both_right, not_false, any_at, any_from, pair_at, pair_from}
 use Rattle.closed_sets.proofs.Firsts.{first_of}
 use Rattle.closed_sets.proofs.Outside.{outside, outside_lt}

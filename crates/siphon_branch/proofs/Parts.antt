@@ -2,7 +2,7 @@
 -- search goes over them in their order: what it has met is what is grown in the class and has one of the
 -- places so far, since each part has the next place and avoids those before it. When all are passed, each
 -- siphon of the class has one of them, since it has an output place of that transition.
-use Rattle.std.proofs.Common.{◌≡◌, ◌↔◌, ◌⊎◌, refl, sym, ap, ◌∙◌, subst, ℕ, ◌+◌, ◌-◌, ◌<◌, ◌≤◌, ◌==◌, ◌||◌, List, [], ◌∷◌, ◌++◌, Bool, true, false, IsTrue, eqb, cond, length, get_or, set, take, length-set, inl, inr, arith}
+use Rattle.std.proofs.Common.{◌≡◌, ◌↔◌, ◌⊎◌, refl, sym, ap, ◌∙◌, subst, ℕ, ◌+◌, ◌-◌, ◌<◌, ◌≤◌, ◌==◌, ◌||◌, List, [], ◌∷◌, ◌++◌, Bool, true, false, IsTrue, not, eqb, cond, length, get_or, set, take, length-set, inl, inr, arith}
 use Rattle.std.specs.List.{list_any}
 use Rattle.std.proofs.Math.Bool.{or-false}
 use Rattle.std.proofs.lemmas.Bool.{or_cases, or_left, or_right, cases_lt, cases_eq, true≢false, false≢true, eq-eqb, eqb-true}
@@ -13,13 +13,14 @@ use Rattle.net_values.specs.declared.column.WeightedPlace.{WeightedPlace}
 use Rattle.net_values.specs.Columns.{Lists}
 use Rattle.net_values.specs.Net.{Net}
 use Rattle.net_values.specs.PlaceSets.{has}
-use Rattle.closed_sets.specs.ClosedSets.{has_input_in, has_output_in, IsSiphon}
+use Rattle.closed_sets.specs.ClosedSets.{has_input_in, has_output_in, IsSiphon, IsNonempty}
 use Rattle.closed_sets.specs.Growth.{IsFirst, is_open, with_place, Belongs, whole}
 use Rattle.closed_sets.specs.Passes.{members}
-use Rattle.closed_sets.proofs.Below.{cases_bool, apart, same_bools, both_left, both_right, not_false, pair_at, pair_from}
+use Rattle.closed_sets.proofs.Below.{cases_bool, apart, same_bools, any_at, any_from, both_left, both_right, not_true, not_false, pair_at, pair_from}
+use Rattle.closed_sets.proofs.GreatestSiphons.{greatest_there}
 use Rattle.closed_sets.proofs.Passes.{meets_is}
 use Rattle.siphon_branch.specs.declared.branch.Branch.{Branch}
-use Rattle.siphon_branch.specs.Classes.{HasSize, IsLive}
+use Rattle.siphon_branch.specs.Classes.{HasSize, IsLiveClass}
 use Rattle.siphon_branch.specs.Met.{Adds, AddsSome, Meets, Overruns, IsGrownFrom}
 use Rattle.siphon_branch.proofs.Growths.{same_growth, growth_over, from_part, to_part}
 use Rattle.siphon_branch.proofs.Lists.{adds_on, some_on, adds_same, some_within, adds_nothing, adds_one, adds_some}
@@ -166,6 +167,10 @@ module _ (net : Net) (class : Branch) (entries : List WeightedPlace) (t i limit 
       let same : length (set part.contains at true) ≡ length part.contains = simp length-set in
       record { contains = same ∙ ap length partway.contains ∙ size.contains; avoids = partway.size }
 
+  pub part_some : (part : Branch) (old met : List (List Bool)) → IsPartway net class part entries i limit old met → IsNonempty net (has (set part.contains at true))
+  part_some part old met partway =
+      any_at net.places (has (set part.contains at true)) at below (get_or-set_same part.contains at true false (omega (arith, ap length partway.contains, size.contains, below)))
+
   -- the part takes one place more, of which there are no more than in the net
   pub part_smaller : (part : Branch) (old met : List (List Bool)) → IsPartway net class part entries i limit old met → length (set part.contains at true) - members (set part.contains at true) < length class.contains - members class.contains
   part_smaller part old met partway =
@@ -268,15 +273,27 @@ partway_all net class part entries t i limit old met opens h past partway = reco
   room = partway.meets.room;
 }
 
--- no siphon is grown in a class to which none belongs
-pub dead_meets : (net : Net) (class : Branch) (limit : ℕ) (met : List (List Bool)) → (IsLive net class → ⊥) → length met ≤ limit → Meets (IsGrownFrom net class.contains class.avoids) limit met met
-dead_meets net class limit met dead room = record {
-  adds = adds_nothing (IsGrownFrom net class.contains class.avoids) met (λ list grown. dead (has list, grown.siphon, grown.belongs));
+-- no siphon is grown in a class that isn't live
+pub dead_meets : (net : Net) (class : Branch) (limit : ℕ) (met : List (List Bool)) → IsNonempty net (has class.contains) → (IsLiveClass net (has class.contains) (has class.avoids) → ⊥) → length met ≤ limit → Meets (IsGrownFrom net class.contains class.avoids) limit met met
+dead_meets net class limit met some dead room = record {
+  adds = adds_nothing (IsGrownFrom net class.contains class.avoids) met (λ list grown.
+    let U = greatest_there net (λ p. not (has class.avoids p)) in
+    let within = U.1.greatest (has list) grown.siphon (λ p below member. not_true (has class.avoids p) (elim (cases_bool (has class.avoids p)) [
+      | inl avoided ↦ absurd (apart (has list p) member (grown.belongs.has_none p below avoided))
+      | inr out ↦ out
+    ])) in
+    let at = any_from net.places (has class.contains) some in
+    dead record {
+      greatest = U.0;
+      is_greatest = U.1;
+      nonempty = any_at net.places U.0 at.0 at.1 (within at.0 at.1 (grown.belongs.has_all at.0 at.1 at.2));
+      has_all = λ p below member. within p below (grown.belongs.has_all p below member);
+    });
   room = room;
 }
 
 -- where the contained set is a siphon it only is grown in a live class
-pub leaf_adds : (net : Net) (class : Branch) (met : List (List Bool)) → HasSize net.places class → IsLive net class → IsSiphon net (has class.contains) → Adds (IsGrownFrom net class.contains class.avoids) met (met ++ class.contains ∷ [])
+pub leaf_adds : (net : Net) (class : Branch) (met : List (List Bool)) → HasSize net.places class → IsLiveClass net (has class.contains) (has class.avoids) → IsSiphon net (has class.contains) → Adds (IsGrownFrom net class.contains class.avoids) met (met ++ class.contains ∷ [])
 leaf_adds net class met size live siphon =
     adds_one (IsGrownFrom net class.contains class.avoids) met class.contains
     record {
@@ -285,7 +302,7 @@ leaf_adds net class met size live siphon =
       belongs = record {
         has_all = λ p below member. member;
         has_none = λ p below avoided. elim (cases_bool (has class.contains p)) [
-          | inl member ↦ absurd (apart (live.0 p) (live.2.has_all p below member) (live.2.has_none p below avoided))
+          | inl member ↦ absurd (apart (has class.avoids p) avoided (not_false _ (live.is_greatest.within p below (live.has_all p below member))))
           | inr out ↦ out
         ];
       };
@@ -298,13 +315,13 @@ leaf_adds net class met size live siphon =
     ∙ same_bools (has list k) (has class.contains k) (within k (omega (arith, grown.size))) (grown.belongs.has_all k (omega (arith, grown.size)))
     ∙ get_or_default class.contains k false d (omega (arith, grown.size, size.contains))))
 
-pub leaf_meets : (net : Net) (class : Branch) (limit : ℕ) (met met' : List (List Bool)) → HasSize net.places class → IsLive net class → IsSiphon net (has class.contains) → (met' ≡ met ++ class.contains ∷ []) × (length met' ≤ limit) → Meets (IsGrownFrom net class.contains class.avoids) limit met met'
+pub leaf_meets : (net : Net) (class : Branch) (limit : ℕ) (met met' : List (List Bool)) → HasSize net.places class → IsLiveClass net (has class.contains) (has class.avoids) → IsSiphon net (has class.contains) → (met' ≡ met ++ class.contains ∷ []) × (length met' ≤ limit) → Meets (IsGrownFrom net class.contains class.avoids) limit met met'
 leaf_meets net class limit met met' size live siphon pushed = record {
   adds = subst (λ (list : List (List Bool)). Adds (IsGrownFrom net class.contains class.avoids) met list) (sym pushed.0) (leaf_adds net class met size live siphon);
   room = pushed.1;
 }
 
-pub leaf_over : (net : Net) (class : Branch) (limit : ℕ) (met met' : List (List Bool)) → HasSize net.places class → IsLive net class → IsSiphon net (has class.contains) → (met' ≡ met ++ class.contains ∷ []) × (length met' ≡ limit + 1) → Overruns (IsGrownFrom net class.contains class.avoids) limit met met'
+pub leaf_over : (net : Net) (class : Branch) (limit : ℕ) (met met' : List (List Bool)) → HasSize net.places class → IsLiveClass net (has class.contains) (has class.avoids) → IsSiphon net (has class.contains) → (met' ≡ met ++ class.contains ∷ []) × (length met' ≡ limit + 1) → Overruns (IsGrownFrom net class.contains class.avoids) limit met met'
 leaf_over net class limit met met' size live siphon pushed = record {
   adds = subst (λ (list : List (List Bool)). AddsSome (IsGrownFrom net class.contains class.avoids) met list) (sym pushed.0)
       (adds_some (IsGrownFrom net class.contains class.avoids) met (met ++ class.contains ∷ []) (leaf_adds net class met size live siphon));

@@ -6,13 +6,14 @@ use Rattle.std.proofs.lemmas.Bool.{or_cases, or_left, or_right, cases_lt, cases_
 use Rattle.std.proofs.lemmas.List.{get_or_past, get_or-replicate, length-replicate}
 use Rattle.net_values.specs.Net.{Net}
 use Rattle.net_values.specs.PlaceSets.{has}
-use Rattle.closed_sets.specs.ClosedSets.{any_below}
+use Rattle.closed_sets.specs.ClosedSets.{any_below, IsNonempty}
 use Rattle.closed_sets.specs.Growth.{IsFirst, only_place, GrowsWhole}
 use Rattle.closed_sets.proofs.Below.{cases_bool, apart, same_bools, any_at, none_from, none_at}
 use Rattle.closed_sets.proofs.Firsts.{first_same}
 use Rattle.siphon_branch.specs.declared.branch.Branch.{Branch}
 use Rattle.siphon_branch.specs.Classes.{HasSize}
-use Rattle.siphon_branch.specs.Met.{Meets, Overruns, IsGrownFrom, IsGrownSet}
+use Rattle.siphon_branch.specs.Limits.{IsGrownSet}
+use Rattle.siphon_branch.specs.Met.{Meets, Overruns, IsGrownFrom}
 use Rattle.siphon_branch.proofs.Growths.{same_growth}
 use Rattle.siphon_branch.proofs.Lists.{adds_on, some_on, adds_same, some_within, adds_nothing}
 use Rattle.siphon_branch.proofs.Parts.{placed, taken_back}
@@ -78,6 +79,9 @@ module _ (net : Net) (part : Branch) (p limit : ℕ) (old met : List (List Bool)
 
   contained : (q : ℕ) → has (set part.contains p true) q ≡ only_place p q
   contained q = placed part.contains p room q ∙ ap (λ b. eqb q p || b) (zeros q) ∙ or-false (eqb q p)
+
+  pub begun_some : IsNonempty net (has (set part.contains p true))
+  begun_some = any_at net.places (has (set part.contains p true)) p below (contained p ∙ eq-eqb p p refl)
 
   root_to : (list : List Bool) → Part list → IsGrownSet net list × IsTrue (has list p) × (any_below p (has list) ≡ false)
   root_to list grown =

@@ -19,7 +19,8 @@ use Rattle.net_values.specs.PlaceSets.{has}
 use Rattle.net_values.specs.TheList.{IsTheList}
 use Rattle.closed_sets.specs.ClosedSets.{IsMinimalSiphon}
 use Rattle.closed_sets.specs.MinimalSets.{IsMinimalSet}
-use Rattle.siphon_branch.specs.Met.{AreDistinct, IsListOf, Adds, Overruns, PassesLimit, IsGrownSet}
+use Rattle.siphon_branch.specs.Limits.{AreDistinct, PassesLimit, IsGrownSet}
+use Rattle.siphon_branch.specs.Met.{IsListOf, Adds, Overruns}
 use Rattle.siphon_branch.proofs.MinimalGrown.{minimal_grown}
 
 equal_sets : (one other : List Bool) → slice_cmp bool_cmp one other ≡ Equal → one ≡ other
@@ -44,16 +45,16 @@ equal_itself [] = refl
 equal_itself (true ∷ xs) = equal_itself xs
 equal_itself (false ∷ xs) = equal_itself xs
 
-abbrev same_sets : List Bool → List Bool → Bool
+abbrev pub same_sets : List Bool → List Bool → Bool
 same_sets one other = is_eq (slice_cmp bool_cmp one other)
 
-decides_same : (one other : List Bool) → Decides (same_sets one other) (one ≡ other)
+pub decides_same : (one other : List Bool) → Decides (same_sets one other) (one ≡ other)
 decides_same one other = (
   λ holds. equal_sets one other ((Equal-is (slice_cmp bool_cmp one other)).0 holds),
   λ equal. (Equal-is (slice_cmp bool_cmp one other)).1 (subst (λ (set : List Bool). slice_cmp bool_cmp one set ≡ Equal) equal (equal_itself one)),
 )
 
-same_turned : (one other : List Bool) → same_sets one other ≡ same_sets other one
+pub same_turned : (one other : List Bool) → same_sets one other ≡ same_sets other one
 same_turned one other =
     same_from_decides {P = one ≡ other} (same_sets one other) (same_sets other one) (decides_same one other)
     (λ holds. sym ((decides_same other one).0 holds), λ equal. (decides_same other one).1 (sym equal))

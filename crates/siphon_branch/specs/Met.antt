@@ -1,31 +1,11 @@
--- The sets that a search meets, as lists: each set is the list of truth values that tell for each place of
--- the net whether it is in.
-use Rattle.std.specs.Prelude.{◌≡◌, ◌↔◌, ◌≤◌, ℕ, ◌+◌, List, Bool, ◌++◌, length, AllPairs, Contains}
+-- What a search meets: lists of sets, each of which is the list of truth values that tell for each place of the
+-- net whether it is in.
+use Rattle.std.specs.Prelude.{◌≡◌, ◌↔◌, ◌≤◌, ℕ, ◌+◌, List, Bool, ◌++◌, length, Contains}
 use Rattle.net_values.specs.Net.{Net}
 use Rattle.net_values.specs.PlaceSets.{has}
 use Rattle.closed_sets.specs.ClosedSets.{IsSiphon}
-use Rattle.closed_sets.specs.Growth.{Belongs, GrowsWhole, IsGrown}
-
--- a grown siphon of the net
-pub record IsGrownSet (net : Net) (set : List Bool) : Type 0 where
-  pub size : length set ≡ net.places
-  pub grown : IsGrown net (has set)
-
--- no member occurs twice
-abbrev pub AreDistinct : {X : Type 0} → List X → Type 0
-AreDistinct list = AllPairs (λ one later. one ≡ later → ⊥) list
-
--- the net has at most this many grown siphons: they all are in a list of this length
-pub record HasAtMostGrown (net : Net) (sets : ℕ) : Type 0 where
-  pub grown : List (List Bool)
-  pub few : length grown ≤ sets
-  pub every : (set : List Bool) → IsGrownSet net set → Contains grown set
-
--- one more distinct grown siphons than the limit
-pub record PassesLimit (net : Net) (sets : ℕ) (carried : List (List Bool)) : Type 0 where
-  pub count : length carried ≡ sets + 1
-  pub distinct : AreDistinct carried
-  pub grown : (set : List Bool) → Contains carried set → IsGrownSet net set
+use Rattle.closed_sets.specs.Growth.{Belongs, GrowsWhole}
+use Rattle.siphon_branch.specs.Limits.{AreDistinct}
 
 -- the list has exactly the sets with the property, each once
 pub record IsListOf (Property : List Bool → Type 0) (list : List (List Bool)) : Type 0 where

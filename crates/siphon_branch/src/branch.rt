@@ -1,9 +1,10 @@
 ghost use Rattle.std.specs.Prelude.{◌≡◌, ◌↔◌, ◌≤◌, IsTrue, IfOk, replicate, false};
 ghost use Rattle.net_values.specs.FlatNets.{net_of};
-ghost use Rattle.siphon_branch.specs.Classes.{HasSize, IsLive};
+ghost use Rattle.net_values.specs.PlaceSets.{has};
+ghost use Rattle.siphon_branch.specs.Classes.{HasSize, IsLiveClass};
 
 use closed_sets::greatest_siphon;
-use net_values::{FlatNet, NoMemory, PlaceSet};
+use net_values::{FlatNet, MAX_ENTRIES, NoMemory, PlaceSet};
 use std::alloc::Global;
 
 /// A class of siphons: those that contain the one set of places and avoid the other.
@@ -16,7 +17,7 @@ pub(crate) struct Branch {
 impl Branch {
     /// The class of all siphons of a net with this many places.
     pub(crate) fn all(alloc: Global, places: usize) -> Result<Branch, NoMemory>
-        requires { places ≤ 4096 }
+        requires { places ≤ MAX_ENTRIES }
         ensures { IfOk result (λ class. class ≡ record { contains = replicate places false; avoids = replicate places false }) }
     {
         Ok(Branch {
@@ -35,13 +36,17 @@ impl Branch {
         })
     }
 
-    /// Whether some siphon belongs to the class.
+    /// Whether the class is live: the greatest siphon that avoids the one set is nonempty and contains the
+    /// other.
     pub(crate) fn is_live(&self, alloc: Global, net: &FlatNet) -> Result<bool, NoMemory>
         requires { HasSize (net_of net.now).places self.now }
-        ensures { IfOk result (λ live. IsTrue live ↔ IsLive (net_of net.now) self.now) }
+        ensures { IfOk result (λ live. IsTrue live ↔ IsLiveClass (net_of net.now) (has self.now.contains) (has self.now.avoids)) }
     {
         let mut left = self.avoids.complement(alloc)?;
         greatest_siphon(net, &mut left);
+        if left.is_empty() {
+            return Ok(false);
+        }
         Ok(self.contains.is_subset(&left))
     }
 }

@@ -10,5 +10,7 @@ mod search;
 mod tests;
 
 pub use fault::SetFault;
-pub use laws::{live_classes_have_a_grown_siphon, minimal_siphons_are_grown};
+pub use laws::{
+    few_are_not_many, live_classes_have_a_grown_siphon, minimal_siphons_are_grown, trap_lists_are_siphon_lists_reversed,
+};
 pub use list::minimal_siphons;

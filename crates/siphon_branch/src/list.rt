@@ -7,9 +7,10 @@ ghost use Rattle.net_values.specs.TheList.{IsTheList};
 ghost use Rattle.closed_sets.specs.ClosedSets.{IsMinimalSiphon};
 ghost use Rattle.closed_sets.specs.MinimalSets.{CoversSiphons, IsMinimalSet};
 ghost use Rattle.siphon_branch.specs.Faults.{FailsToList};
-ghost use Rattle.siphon_branch.specs.Met.{AreDistinct, HasAtMostGrown, IsListOf};
+ghost use Rattle.siphon_branch.specs.Limits.{AreDistinct, HasAtMostGrown};
+ghost use Rattle.siphon_branch.specs.Met.{IsListOf};
 
-use crate::fault::{SetFault, Stop};
+use crate::fault::{SetFault, SearchFault};
 use crate::search::meet_all;
 use closed_sets::is_minimal_siphon;
 use net_values::{FlatNet, NoMemory, PlaceSet, Sets};
@@ -31,8 +32,8 @@ pub fn minimal_siphons(alloc: Global, net: &FlatNet, sets: u32) -> Result<Sets, 
             found.sort();
             Ok(found)
         }
-        Err(Stop::SetLimit) => Err(SetFault::SetLimit(met)),
-        Err(Stop::NoMemory) => Err(SetFault::NoMemory),
+        Err(SearchFault::SetLimit) => Err(SetFault::SetLimit(met)),
+        Err(SearchFault::NoMemory) => Err(SetFault::NoMemory),
     }
 }
 

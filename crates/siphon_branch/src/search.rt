@@ -1,10 +1,13 @@
 ghost use Rattle.std.specs.Prelude.{◌≡◌, [], ◌∷◌, ◌++◌, ◌+◌, ◌≤◌, All, OnOk, length};
 ghost use Rattle.net_values.specs.FlatNets.{net_of};
+ghost use Rattle.net_values.specs.PlaceSets.{has};
+ghost use Rattle.closed_sets.specs.ClosedSets.{IsNonempty};
 ghost use Rattle.siphon_branch.specs.Classes.{HasSize};
-ghost use Rattle.siphon_branch.specs.Met.{IsGrownFrom, IsGrownSet, Meets, Overruns};
+ghost use Rattle.siphon_branch.specs.Limits.{IsGrownSet};
+ghost use Rattle.siphon_branch.specs.Met.{IsGrownFrom, Meets, Overruns};
 
 use crate::branch::Branch;
-use crate::fault::Stop;
+use crate::fault::SearchFault;
 use closed_sets::first_open_transition;
 use net_values::{FlatNet, PlaceSet, Sets};
 use std::alloc::Global;
@@ -16,10 +19,10 @@ pub(crate) fn meet_all(
     net: &FlatNet,
     limit: usize,
     met: &mut Sets,
-) -> Result<(), Stop>
+) -> Result<(), SearchFault>
     requires { met.old ≡ [] }
     ensures ok { OnOk result (Meets (IsGrownSet (net_of net.now)) limit met.old met.new) }
-    ensures limit { result ≡ Err Stop.SetLimit → Overruns (IsGrownSet (net_of net.now)) limit met.old met.new }
+    ensures limit { result ≡ Err SearchFault.SetLimit → Overruns (IsGrownSet (net_of net.now)) limit met.old met.new }
 {
     let mut part = Branch::all(alloc, net.places())?;
     for p in 0..net.places() {
@@ -40,12 +43,13 @@ fn meet(
     class: &Branch,
     limit: usize,
     met: &mut Sets,
-) -> Result<(), Stop>
+) -> Result<(), SearchFault>
     requires class { HasSize (net_of net.now).places class.now }
+    requires some { IsNonempty (net_of net.now) (has class.now.contains) }
     requires sizes { All (λ set. length set ≡ (net_of net.now).places) met.old }
     requires room { length met.old ≤ limit }
     ensures ok { OnOk result (Meets (IsGrownFrom (net_of net.now) class.now.contains class.now.avoids) limit met.old met.new) }
-    ensures limit { result ≡ Err Stop.SetLimit → Overruns (IsGrownFrom (net_of net.now) class.now.contains class.now.avoids) limit met.old met.new }
+    ensures limit { result ≡ Err SearchFault.SetLimit → Overruns (IsGrownFrom (net_of net.now) class.now.contains class.now.avoids) limit met.old met.new }
 {
     if !class.is_live(alloc, net)? {
         return Ok(());
@@ -65,15 +69,15 @@ fn meet(
 }
 
 /// Appends a set to those that were met.
-fn add(alloc: Global, set: &PlaceSet, limit: usize, met: &mut Sets) -> Result<(), Stop>
+fn add(alloc: Global, set: &PlaceSet, limit: usize, met: &mut Sets) -> Result<(), SearchFault>
     requires sizes { All (λ other. length other ≡ length set.now) met.old }
     requires room { length met.old ≤ limit }
     ensures ok { OnOk result ((met.new ≡ met.old ++ set.now ∷ []) × (length met.new ≤ limit)) }
-    ensures limit { result ≡ Err Stop.SetLimit → (met.new ≡ met.old ++ set.now ∷ []) × (length met.new ≡ limit + 1) }
+    ensures limit { result ≡ Err SearchFault.SetLimit → (met.new ≡ met.old ++ set.now ∷ []) × (length met.new ≡ limit + 1) }
 {
     met.push(set.copy(alloc)?)?;
     if met.len() > limit {
-        return Err(Stop::SetLimit);
+        return Err(SearchFault::SetLimit);
     }
     Ok(())
 }

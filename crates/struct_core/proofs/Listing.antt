@@ -15,7 +15,7 @@ use Rattle.siphon_branch.specs.declared.fault.SetFault.{SetFault}
 use Rattle.siphon_branch.specs.declared.fault.SetFault.TheVariants as limits
 use Rattle.siphon_branch.specs.Faults.{FailsToList}
 use Rattle.closed_sets.specs.MinimalSets.{IsMinimalSet}
-use Rattle.siphon_branch.specs.Met.{HasAtMostGrown}
+use Rattle.siphon_branch.specs.Limits.{HasAtMostGrown}
 use Rattle.report.specs.Texts.{semiflows_text, sets_text}
 use Rattle.struct_core.specs.declared.refusal.Refusal.{Refusal}
 use Rattle.struct_core.specs.declared.refusal.Refusal.TheVariants.{Excess}

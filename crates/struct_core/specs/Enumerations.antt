@@ -10,7 +10,7 @@ use Rattle.semiflow_elim.specs.declared.fault.ElimFault.TheVariants.{WideSum, Ro
 use Rattle.semiflow_elim.specs.Bases.{IsMinimalRow}
 use Rattle.semiflow_elim.specs.FirstFail.{StepPasses, IsFirstFail}
 use Rattle.closed_sets.specs.MinimalSets.{IsMinimalSet}
-use Rattle.siphon_branch.specs.Met.{HasAtMostGrown, PassesLimit}
+use Rattle.siphon_branch.specs.Limits.{HasAtMostGrown, PassesLimit}
 use Rattle.report.specs.Texts.{semiflows_text, sets_text}
 use Rattle.struct_core.specs.Lines.{wide_sum_line, wide_row_line, budget_line, limit_line}
 

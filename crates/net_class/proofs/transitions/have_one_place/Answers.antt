@@ -2,7 +2,7 @@ use Rattle.std.proofs.Common.{subst, refl, sym, inl, inr, ◌<◌, arith}
 use Rattle.std.proofs.lemmas.Bool.{cases_eq, false≢true}
 use Rattle.net_values.specs.FlatNets.{net_of}
 use Rattle.net_class.specs.Classes.{HasOne}
-use Rattle.net_class.specs.Sides.{weights_of}
+use Rattle.net_class.specs.Neighbours.{weights_of}
 use Rattle.net_class.proofs.Arcs.{one_from_length, length_from_one}
 use Rattle.net_class.proofs.transitions.have_one_place.Goals as goal
 
@@ -16,7 +16,7 @@ pub loop-t-preserved : goal.loop-t-preserved
 loop-t-preserved c = λ u below. elim (cases_eq u c.loop-t.t) [
   | inl same ↦
       let net = net_of c.args.net.now in
-      subst (λ v. HasOne net.places (λ p. 0 < weights_of c.args.side net p v)) (sym same)
+      subst (λ v. HasOne net.places (λ p. 0 < weights_of c.args.neighbours net p v)) (sym same)
       (one_from_length _ _ c.arcs.result.now c.arcs.ensures c.if-arcs-ne1.false)
   | inr other ↦ c.loop-t.invariant u (omega arith)
 ]

@@ -3,7 +3,8 @@ use Rattle.std.proofs.lemmas.Bool.{false≢true}
 use Rattle.net_values.specs.FlatNets.{net_of}
 use Rattle.net_values.specs.PlaceSets.{has}
 use Rattle.closed_sets.specs.ClosedSets.{IsMinimalSiphon}
-use Rattle.siphon_branch.specs.Met.{AreDistinct, IsListOf}
+use Rattle.siphon_branch.specs.Limits.{AreDistinct}
+use Rattle.siphon_branch.specs.Met.{IsListOf}
 use Rattle.siphon_branch.proofs.Keeping.{IsKept, keep_one, skip_one, keep_all, kept_sizes}
 use Rattle.siphon_branch.proofs.list.keep_minimal.Goals as goal
 use Rattle.siphon_branch.proofs.list.keep_minimal.Goals.{then-is_minimal_siphon+in_ok-copy+in_ok-push, else-is_minimal_siphon}

@@ -1,6 +1,6 @@
 use Rattle.std.proofs.Common.{ap, Err}
 use Rattle.net_values.specs.FlatNets.{net_of}
-use Rattle.siphon_branch.specs.Met.{IsGrownSet}
+use Rattle.siphon_branch.specs.Limits.{IsGrownSet}
 use Rattle.closed_sets.proofs.Covers.{covers}
 use Rattle.siphon_branch.proofs.Sorting.{the_list, from_nothing, passes_from_nothing}
 use Rattle.siphon_branch.proofs.list.minimal_siphons.Goals as goal

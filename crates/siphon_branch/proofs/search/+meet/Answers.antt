@@ -1,20 +1,22 @@
 use Rattle.std.proofs.Common.{◌≡◌, ◌-◌, Result, Err, sym, ap, ◌∙◌, subst, ◌+◌, ◌<◌, ◌≤◌, List, Bool, true, false, length, get_or, set, arith, rules}
 use Rattle.std.proofs.lemmas.Result.{err_from_is_err_and}
 use Rattle.net_values.specs.FlatNets.{net_of}
+use Rattle.net_values.specs.PlaceSets.{has}
+use Rattle.closed_sets.specs.ClosedSets.{IsNonempty}
 use Rattle.closed_sets.specs.Passes.{members}
-use Rattle.siphon_branch.specs.declared.fault.Stop.{Stop}
-use Rattle.siphon_branch.specs.declared.fault.Stop.TheVariants.{SetLimit}
+use Rattle.siphon_branch.specs.declared.fault.SearchFault.{SearchFault}
+use Rattle.siphon_branch.specs.declared.fault.SearchFault.TheVariants.{SetLimit}
 use Rattle.closed_sets.proofs.Below.{apart}
 use Rattle.siphon_branch.specs.Classes.{HasSize}
 use Rattle.siphon_branch.specs.Met.{IsGrownFrom, Meets, Overruns}
 use Rattle.siphon_branch.proofs.Lists.{adds_sizes, on_ok_map}
-use Rattle.siphon_branch.proofs.Parts.{nowhere, MetBefore, IsPartway, partway_none, partway_more, partway_over, partway_all, part_size, part_smaller, dead_meets, leaf_meets, leaf_over}
+use Rattle.siphon_branch.proofs.Parts.{nowhere, MetBefore, IsPartway, partway_none, partway_more, partway_over, partway_all, part_size, part_some, part_smaller, dead_meets, leaf_meets, leaf_over}
 use Rattle.siphon_branch.proofs.search.+meet.Goals as goal
 
 pub returns-then-not-branch-clause-ok : goal.returns-then-not-branch-clause-ok
 returns-then-not-branch-clause-ok t c =
     let dead : c.in_ok-is_live.field-0 ≡ false = search rules in
-    dead_meets (net_of c.args.net.now) c.args.class.now c.args.limit c.args.met.now (λ live. apart c.in_ok-is_live.field-0 (c.in_ok-is_live.ensures.1 live) dead) c.requires.room
+    dead_meets (net_of c.args.net.now) c.args.class.now c.args.limit c.args.met.now c.requires.some (λ live. apart c.in_ok-is_live.field-0 (c.in_ok-is_live.ensures.1 live) dead) c.requires.room
 
 pub returns-in_default-clause-ok : goal.returns-in_default-clause-ok
 returns-in_default-clause-ok t c =
@@ -46,7 +48,11 @@ meet-requires t c =
       (
         subst (λ (s : List Bool). HasSize net.places record { contains = s; avoids = c.loop-entry.part.avoids }) (sym c.insert.ensures)
             (part_size net c.args.class.now entries c.in-Some.t i c.args.limit c.requires.class c.in-Some.ensures c.inputs-inputs.ensures.lists within c.loop-entry.part c.args.met.now c.loop-entry.met c.loop-entry.invariant),
+        (
+          subst (λ (s : List Bool). IsNonempty net (has s)) (sym c.insert.ensures)
+              (part_some net c.args.class.now entries c.in-Some.t i c.args.limit c.requires.class c.in-Some.ensures c.inputs-inputs.ensures.lists within c.loop-entry.part c.args.met.now c.loop-entry.met c.loop-entry.invariant),
         (adds_sizes (MetBefore net c.args.class.now entries i) net.places c.args.met.now c.loop-entry.met c.loop-entry.invariant.meets.adds (λ list grown. grown.0.size) c.requires.sizes, c.loop-entry.invariant.meets.room),
+        ),
       ),
     )
 
@@ -59,7 +65,7 @@ returns-in_err-meet-clause-limit t c =
     let within : i < length entries = omega arith in
     λ over.
     let p = err_from_is_err_and c.from_residual-in_err-meet.result c.from_residual-in_err-meet.ensures.1 in
-    let whole : ◌≡◌ {A = Result (Unit {0}) Stop} (Err c.in_err-meet.field-0.0) (Err SetLimit) = search (rules, p.1, p.2, over) in
+    let whole : ◌≡◌ {A = Result (Unit {0}) SearchFault} (Err c.in_err-meet.field-0.0) (Err SetLimit) = search (rules, p.1, p.2, over) in
     partway_over net c.args.class.now entries c.in-Some.t i c.args.limit c.requires.class c.in-Some.ensures c.inputs-inputs.ensures.lists within c.loop-entry.part c.args.met.now c.loop-entry.met c.loop-entry.invariant c.meet.new.met
     (subst (λ (s : List Bool). Overruns (IsGrownFrom net s c.loop-entry.part.avoids) c.args.limit c.loop-entry.met c.meet.new.met) c.insert.ensures (c.in_err-meet.ensures.limit whole))
 

@@ -1,27 +1,27 @@
 ghost use Rattle.std.specs.Prelude.{◌<◌};
 ghost use Rattle.net_values.specs.Columns.{Lists};
 ghost use Rattle.net_values.specs.FlatNets.{net_of};
-ghost use Rattle.net_class.specs.Sides.{weights_of};
+ghost use Rattle.net_class.specs.Neighbours.{weights_of};
 
 use net_values::{FlatNet, WeightedPlace};
 
-/// Which arcs of a transition are meant: those from its input places, or those to its output places.
+/// Which neighbours of a transition are meant: its input places or its output places.
 #[derive(Clone, Copy)]
-pub(crate) enum Side {
-    Input,
-    Output,
+pub(crate) enum Neighbours {
+    Inputs,
+    Outputs,
 }
 
-impl Side {
-    /// The places that are joined to transition `t` on this side, ascending, each with the weight of the
+impl Neighbours {
+    /// The places that are such neighbours of transition `t`, ascending, each with the weight of the
     /// arcs.
     pub(crate) fn arcs(self, net: &FlatNet, t: usize) -> &[WeightedPlace]
         requires { t < (net_of net.now).transitions }
         ensures { Lists (net_of net.now).places (λ p. weights_of self (net_of net.now) p t) result.now }
     {
         match self {
-            Side::Input => net.inputs(t),
-            Side::Output => net.outputs(t),
+            Neighbours::Inputs => net.inputs(t),
+            Neighbours::Outputs => net.outputs(t),
         }
     }
 }

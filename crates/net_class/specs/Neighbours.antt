@@ -1,13 +1,13 @@
--- The arcs of one side of the transitions.
+-- The weights of the arcs to the transitions, or of those from them.
 use Rattle.std.specs.Prelude.{ℕ, ◌<◌, ◌≤◌}
 use Rattle.net_values.specs.Net.{Net}
-use Rattle.net_class.specs.declared.side.Side.{Side}
-use Rattle.net_class.specs.declared.side.Side.TheVariants.{Input, Output}
+use Rattle.net_class.specs.declared.neighbours.Neighbours.{Neighbours}
+use Rattle.net_class.specs.declared.neighbours.Neighbours.TheVariants.{Inputs, Outputs}
 
 -- the weights of the arcs to the transitions, or of those from them
-abbrev pub weights_of : Side → Net → ℕ → ℕ → ℕ
-weights_of Input net = net.pre
-weights_of Output net = net.post
+abbrev pub weights_of : Neighbours → Net → ℕ → ℕ → ℕ
+weights_of Inputs net = net.pre
+weights_of Outputs net = net.post
 
 -- no weight exceeds 1
 abbrev pub UnitWeights : Net → (ℕ → ℕ → ℕ) → Type 0
