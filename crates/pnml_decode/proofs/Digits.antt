@@ -4,10 +4,12 @@ use Rattle.std.specs.Prelude.{◌==◌, nat_le, nat_lt}
 use Rattle.std.specs.Result.{result_ok, OkIff}
 use Rattle.std.specs.Char.{digit_value}
 use Rattle.std.specs.Str.Parse.{AllDigits, IsNumeral, ParsesUnsigned, digits_value, without_leading_plus}
-use Rattle.std.proofs.lemmas.Bool.{lt-ltb, ltb-true}
+use Rattle.std.proofs.lemmas.Bool.{and_parts, lt-ltb, ltb-true}
 use Rattle.std.proofs.lemmas.Bool.Decides.{nat_tests}
-use Rattle.pnml_grammar.specs.Numerals.{is_digit}
-use Rattle.pnml_grammar.specs.Runs.{passed}
+use Rattle.pnml_grammar.specs.declared.element.Context.{Context}
+use Rattle.pnml_grammar.specs.Characters.{is_space}
+use Rattle.pnml_grammar.specs.Numerals.{is_digit, is_white, numeral, number_in}
+use Rattle.pnml_grammar.specs.Runs.{passed, beyond}
 use Rattle.pnml_decode.specs.Numbers.{narrow, number_of}
 
 digit : (c : ℕ) → is_digit c ≡ true → digit_value c < 10
@@ -51,3 +53,13 @@ pub parsed : {E : Type 0} (r : Result ℕ E) (digits : List ℕ) → AllDigits 1
 parsed r digits each parses =
     let F : List ℕ → Type 0 = λ bytes. OkIff r (IsNumeral 10 bytes × (digits_value 10 bytes < 2 ^ 64)) (digits_value 10 bytes) in
     read r digits each (subst F (plain digits each) parses)
+
+-- ---- white space has no digits
+
+white_passed : (bytes : List ℕ) → is_white bytes ≡ true → beyond is_space bytes ≡ []
+white_passed [] e = refl
+white_passed (c ∷ cs) e = let p = and_parts (is_space c) (is_white cs) e in rw p.0 (white_passed cs p.1)
+
+pub white_is_no_number : (context : Context) (bytes : List ℕ) → is_white bytes ≡ true → number_in context bytes ≡ None
+unfolding number_in numeral
+white_is_no_number context bytes e = rw (white_passed bytes e) refl

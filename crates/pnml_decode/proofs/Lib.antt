@@ -4,3 +4,4 @@ pub mod Giving
 pub mod LoopLaws
 pub mod Digits
 pub mod SkippedTags
+pub mod ReadTags

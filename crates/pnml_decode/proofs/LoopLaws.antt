@@ -14,14 +14,14 @@ use Rattle.pnml_grammar.proofs.OffsetLaws.{token_goes_on, token_end_inside}
 use Rattle.pnml_grammar.proofs.TokenLaws.{one_token_occurs}
 use Rattle.pnml_grammar.proofs.ReadToLaws.{nothing_is_read, declaration_is_read, token_is_read}
 use Rattle.pnml_grammar.proofs.FaultLaws.{missing_token_is_faulty, refused_token_is_faulty}
-use Rattle.pnml_token.specs.declared.step.Step.{Step}
-use Rattle.pnml_token.specs.declared.step.Step.TheVariants as steps
+use Rattle.pnml_token.specs.declared.token.Step.{Step}
+use Rattle.pnml_token.specs.declared.token.Step.TheVariants as steps
 use Rattle.pnml_token.specs.Steps.{IfToken, IfEnd}
 use Rattle.pnml_decode.specs.declared.fault.DocFault.{DocFault}
 use Rattle.pnml_decode.specs.declared.fault.DocFault.TheVariants as refusals
-use Rattle.pnml_decode.specs.declared.stop.Stop.{Stop}
-use Rattle.pnml_decode.specs.declared.stop.Stop.TheVariants as stops
-use Rattle.pnml_decode.specs.Stops.{IfBecause}
+use Rattle.pnml_decode.specs.declared.reader_fault.ReaderFault.{ReaderFault}
+use Rattle.pnml_decode.specs.declared.reader_fault.ReaderFault.TheVariants as faults
+use Rattle.pnml_decode.specs.Taking.{reason_named}
 use Rattle.pnml_decode.specs.Faults.{NamesFirstFault, IsMissing, declaration_end, refusal_at}
 
 -- ---- where no token occurs
@@ -31,7 +31,7 @@ missing_is_first refusals.NoMemory bytes k state text read missing = tt
 missing_is_first (refusals.At offset reason) bytes k state text read missing = (
   text,
   missing_token_is_faulty bytes offset state reason (subst (λ (p : ℕ). IsReadTo bytes p state) (sym missing.0) read)
-      (subst (λ (p : ℕ). p < length bytes) (sym missing.0) missing.1) (subst (λ (p : ℕ). HasNoToken bytes p reason) (sym missing.0) missing.2),
+      (subst (λ (p : ℕ). p < length bytes) (sym missing.0) missing.1.inside) (subst (λ (p : ℕ). HasNoToken bytes p reason) (sym missing.0) missing.1),
 )
 missing_is_first _ bytes k state text read missing = absurd missing
 
@@ -43,7 +43,7 @@ nothing_before bytes k first none =
 pub missing_in_front : (refusal : DocFault) (bytes : List ℕ) (k : ℕ) → IsUtf8 bytes → k ≡ first_offset bytes → IsMissing refusal bytes k → NamesFirstFault refusal bytes
 missing_in_front refusals.NoMemory bytes k text first missing = tt
 missing_in_front (refusals.At offset reason) bytes k text first missing =
-    missing_is_first (refusals.At offset reason) bytes k start text (nothing_before bytes k first (λ e at. missing.2.nothing_there tokens.Declaration e at)) missing
+    missing_is_first (refusals.At offset reason) bytes k start text (nothing_before bytes k first (λ e at. missing.1.nothing_there tokens.Declaration e at)) missing
 missing_in_front _ bytes k text first missing = absurd missing
 
 -- ---- the declaration in front
@@ -82,10 +82,10 @@ token_goes_on_read bytes k state after token e read at taken =
     (subst (λ (s : State). IsReadTo bytes e s) (sym taken.1) (token_is_read bytes k state token e read at taken.0), token_end_inside bytes k token e at)
 
 -- one that isn't makes its offset the first that is faulty
-pub stop_is_first : (stop : Stop) (bytes : List ℕ) (k : ℕ) (state : State) (token : Token) (e : ℕ) → IsUtf8 bytes → IsReadTo bytes k state → TokenAt bytes k token e
-    → IfBecause stop (λ reason. reason_of state token ≡ Some reason) → NamesFirstFault (refusal_at k stop) bytes
-stop_is_first stops.NoMemory bytes k state token e text read at because = tt
-stop_is_first (stops.Because reason) bytes k state token e text read at because = (text, refused_token_is_faulty bytes k state token e reason read at because)
+pub refusal_is_first : (fault : ReaderFault) (bytes : List ℕ) (k : ℕ) (state : State) (token : Token) (e : ℕ) → IsUtf8 bytes → IsReadTo bytes k state → TokenAt bytes k token e
+    → reason_named fault ≡ reason_of state token → NamesFirstFault (refusal_at k fault) bytes
+refusal_is_first faults.NoMemory bytes k state token e text read at named = tt
+refusal_is_first (faults.Because reason) bytes k state token e text read at named = (text, refused_token_is_faulty bytes k state token e reason read at (sym named))
 
 pub token_at_step : (bytes : List ℕ) (k : ℕ) (step : Step) (token : Token) (e : ℕ) → step ≡ steps.Token token e → IfToken step (λ token e. TokenAt bytes k token e) → TokenAt bytes k token e
 token_at_step bytes k step token e is at = subst (λ (s : Step). IfToken s (λ token e. TokenAt bytes k token e)) is at

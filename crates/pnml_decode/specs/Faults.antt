@@ -1,14 +1,11 @@
 -- What a refusal says of the bytes.
-use Rattle.std.specs.Prelude.{◌≡◌, ℕ, ◌<◌, List, length, Option, Some, None, IfSome, codes, nat_eq, if◌then◌else◌}
-use Rattle.std.specs.List.{starts_with}
-use Rattle.pnml_grammar.specs.declared.reason.Reason.{Reason}
-use Rattle.pnml_grammar.specs.declared.reason.Reason.TheVariants.{BadToken, Doctype}
+use Rattle.std.specs.Prelude.{◌≡◌, ℕ, List, Option, Some, None, IfSome}
 use Rattle.pnml_grammar.specs.declared.token.Token.TheVariants as tokens
 use Rattle.pnml_grammar.specs.FirstFault.{Fault, not_utf8, at, truncated, FirstFault, HasNoToken}
-use Rattle.pnml_token.specs.declared.step.Step.{Step}
-use Rattle.pnml_token.specs.declared.step.Step.TheVariants as steps
-use Rattle.pnml_decode.specs.declared.stop.Stop.{Stop}
-use Rattle.pnml_decode.specs.declared.stop.Stop.TheVariants as stops
+use Rattle.pnml_token.specs.declared.token.Step.{Step}
+use Rattle.pnml_token.specs.declared.token.Step.TheVariants as steps
+use Rattle.pnml_decode.specs.declared.reader_fault.ReaderFault.{ReaderFault}
+use Rattle.pnml_decode.specs.declared.reader_fault.ReaderFault.TheVariants as faults
 use Rattle.pnml_decode.specs.declared.fault.DocFault.{DocFault}
 use Rattle.pnml_decode.specs.declared.fault.DocFault.TheVariants as refusals
 
@@ -23,22 +20,23 @@ fault_of (refusals.Truncated k) = Some (truncated k)
 abbrev pub NamesFirstFault : DocFault → List ℕ → Type 0
 NamesFirstFault refusal bytes = IfSome (fault_of refusal) (λ fault. FirstFault bytes fault)
 
--- the reason where no token is in front of the bytes
-abbrev pub missing_reason : List ℕ → Reason
-missing_reason bytes = if starts_with nat_eq bytes (codes "<!DOCTYPE") then Doctype else BadToken
+-- where the answer is out of memory
+abbrev pub IfNoMemory : DocFault → Type 0 → Type 0
+IfNoMemory refusals.NoMemory P = P
+IfNoMemory _ P = Unit
 
--- no token occurs at the offset, and this is said
+-- bytes occur at the offset and no token does, and this is said
 abbrev pub IsMissing : DocFault → List ℕ → ℕ → Type 0
 IsMissing refusals.NoMemory bytes k = Unit
-IsMissing (refusals.At offset reason) bytes k = (offset ≡ k) × (k < length bytes) × HasNoToken bytes k reason
+IsMissing (refusals.At offset reason) bytes k = (offset ≡ k) × HasNoToken bytes k reason
 IsMissing _ bytes k = ⊥
 
--- the end of the declaration that is there, if one does
+-- the end of the declaration, where the step is one
 abbrev pub declaration_end : Step → Option ℕ
 declaration_end (steps.Token tokens.Declaration e) = Some e
 declaration_end _ = None
 
--- what is answered where the reading stops at the offset
-abbrev pub refusal_at : ℕ → Stop → DocFault
-refusal_at k stops.NoMemory = refusals.NoMemory
-refusal_at k (stops.Because reason) = refusals.At k reason
+-- what is answered where the reader doesn't take the token at the offset
+abbrev pub refusal_at : ℕ → ReaderFault → DocFault
+refusal_at k faults.NoMemory = refusals.NoMemory
+refusal_at k (faults.Because reason) = refusals.At k reason

@@ -1,6 +1,5 @@
 -- How the reader is seen as the machine of pnml_grammar.
 pub mod Numbers
 pub mod Views
-pub mod Room
-pub mod Stops
+pub mod Taking
 pub mod Faults

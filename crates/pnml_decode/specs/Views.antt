@@ -1,5 +1,5 @@
 -- The reader as a state of the machine: the open elements from the inside out.
-use Rattle.std.specs.Prelude.{◌≡◌, List, map, reverse}
+use Rattle.std.specs.Prelude.{◌≡◌, List, ◌∷◌, map, reverse}
 use Rattle.pnml_grammar.specs.Contents.{Content as Given, ◌then◌, gives}
 use Rattle.pnml_grammar.specs.Counts.{Counts as Counted}
 use Rattle.pnml_grammar.specs.OpenElements.{Frame, State}
@@ -59,3 +59,8 @@ view reader = record {
   under = frames reader.under.items;
   counts = counted reader.counts;
 }
+
+-- the element is opened in the innermost one
+abbrev pub Opens : Reader → Reader → Open → Type 0
+Opens old new element =
+    view new ≡ record { top = frame element; under = frame old.top ∷ frames old.under.items; counts = counted old.counts }

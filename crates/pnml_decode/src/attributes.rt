@@ -3,7 +3,7 @@ ghost use Rattle.std.specs.List.{list_all, list_any};
 ghost use Rattle.pnml_grammar.specs.Elements.{value_of, is_id, fits, fits_as_if_any, has_needed, has_if_needed, has_attributes, has_namespace, has_type};
 
 use crate::elements::{is_skipped, needs};
-use net_values::Text;
+use net_values::{MAX_ID_BYTES, Text};
 use pnml_grammar::{Attribute, AttributeKind, ElementKind};
 
 const NAMESPACE: &[u8] = b"http://www.pnml.org/version-2009/grammar/pnml";
@@ -91,13 +91,13 @@ fn fits_as_if_any(element: ElementKind, attribute: Option<AttributeKind>, value:
     }
 }
 
-/// A value of `id`, `source`, `target` or `ref`: 1 to 4,096 bytes, none of them a control character
+/// A value of `id`, `source`, `target` or `ref`: 1 to `MAX_ID_BYTES` bytes, none of them a control character
 /// of ASCII or a space.
 #[tactic(auto, unfolding(pnml_grammar::specs::Elements::is_id))]
 fn is_id(value: &[u8]) -> bool
     ensures { result ≡ is_id value.now }
 {
-    1 <= value.len() && value.len() <= 4096 && are_printed(value)
+    1 <= value.len() && value.len() <= MAX_ID_BYTES && are_printed(value)
 }
 
 fn are_printed(value: &[u8]) -> bool

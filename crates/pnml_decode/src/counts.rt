@@ -1,21 +1,10 @@
-ghost use Rattle.std.specs.Prelude.{◌≡◌, nat_le, [], ◌∷◌, None};
-ghost use Rattle.pnml_grammar.specs.Counts.{no_counts, ◌plus◌, counts_of_kind, tag_counts};
-ghost use Rattle.pnml_grammar.specs.Elements.{element_named};
+ghost use Rattle.std.specs.Prelude.{◌≡◌, ◌+◌, true, false, nat_le, Some, None, OnOk, IfOk, IfErr};
+ghost use Rattle.pnml_grammar.specs.Counts.{no_counts, ◌plus◌, counts_of_kind};
 ghost use Rattle.pnml_grammar.specs.Reasons.{count_rows, first_row};
 ghost use Rattle.pnml_decode.specs.Views.{counted};
-ghost use Rattle.pnml_decode.specs.Room.{HasRoom};
 
-use pnml_grammar::{Context, Counted, ElementKind, Reason};
-
-const MOST_PLACES: usize = 2048;
-
-const MOST_TRANSITIONS: usize = 2048;
-
-const MOST_ARCS: usize = 65_536;
-
-const MOST_REFERENCES: usize = 4096;
-
-const MOST_PAGES: usize = 1024;
+use net_values::{MAX_ARCS, MAX_PAGES, MAX_PLACES, MAX_REFERENCES, MAX_TRANSITIONS};
+use pnml_grammar::{Counted, ElementKind, Reason};
 
 /// How many elements of the counted kinds have occurred outside skipped parts. Reference nodes of both
 /// kinds count together.
@@ -41,75 +30,47 @@ impl Counts {
         }
     }
 
-    /// Why one more element of the kind is refused.
-    pub(crate) fn reason(&self, element: ElementKind) -> Option<Reason>
-        ensures { result ≡ first_row (count_rows (counted self.now) element) }
+    /// The counts with one more element of the kind, or why there is no room for it.
+    pub(crate) fn with(self, element: ElementKind) -> Result<Counts, Reason>
+        ensures room { OnOk result (first_row (count_rows (counted self) element) ≡ None) }
+        ensures raised { IfOk result (λ counts. counted counts ≡ counted self plus counts_of_kind element) }
+        ensures full { IfErr result (λ reason. first_row (count_rows (counted self) element) ≡ Some reason) }
     {
         match element {
-            ElementKind::Place => full(MOST_PLACES, self.places, Counted::Places),
-            ElementKind::Transition => {
-                full(MOST_TRANSITIONS, self.transitions, Counted::Transitions)
-            }
-            ElementKind::Arc => full(MOST_ARCS, self.arcs, Counted::Arcs),
-            ElementKind::ReferencePlace | ElementKind::ReferenceTransition => {
-                full(MOST_REFERENCES, self.references, Counted::References)
-            }
-            ElementKind::Page => full(MOST_PAGES, self.pages, Counted::Pages),
-            _ => None,
-        }
-    }
-
-    /// The counts with a tag more, for which there is room.
-    pub(crate) fn with_tag(self, context: Context, name: &[u8]) -> Counts
-        requires { HasRoom context (counted self) (element_named name.now) }
-        ensures { counted result ≡ counted self plus tag_counts context name.now }
-    {
-        match context {
-            Context::Skipped => self,
-            _ => match ElementKind::named(name) {
-                Some(element) => self.with(element),
-                None => self,
-            },
-        }
-    }
-
-    fn with(self, element: ElementKind) -> Counts
-        requires { first_row (count_rows (counted self) element) ≡ None }
-        ensures { counted result ≡ counted self plus counts_of_kind element }
-    {
-        match element {
-            ElementKind::Place => Counts {
-                places: self.places + 1,
+            ElementKind::Place => Ok(Counts {
+                places: one_more(self.places, MAX_PLACES, Counted::Places)?,
                 ..self
-            },
-            ElementKind::Transition => Counts {
-                transitions: self.transitions + 1,
+            }),
+            ElementKind::Transition => Ok(Counts {
+                transitions: one_more(self.transitions, MAX_TRANSITIONS, Counted::Transitions)?,
                 ..self
-            },
-            ElementKind::Arc => Counts {
-                arcs: self.arcs + 1,
+            }),
+            ElementKind::Arc => Ok(Counts {
+                arcs: one_more(self.arcs, MAX_ARCS, Counted::Arcs)?,
                 ..self
-            },
-            ElementKind::ReferencePlace | ElementKind::ReferenceTransition => Counts {
-                references: self.references + 1,
+            }),
+            ElementKind::ReferencePlace | ElementKind::ReferenceTransition => Ok(Counts {
+                references: one_more(self.references, MAX_REFERENCES, Counted::References)?,
                 ..self
-            },
-            ElementKind::Page => Counts {
-                pages: self.pages + 1,
+            }),
+            ElementKind::Page => Ok(Counts {
+                pages: one_more(self.pages, MAX_PAGES, Counted::Pages)?,
                 ..self
-            },
-            _ => self,
+            }),
+            _ => Ok(self),
         }
     }
 }
 
-/// The reason where a count has reached the most that it may be.
-fn full(most: usize, count: usize, of: Counted) -> Option<Reason>
-    ensures { result ≡ first_row ((nat_le most count, Reason.TooMany of) ∷ []) }
+/// A count raised by one, or the reason where it has reached the most that it may be.
+fn one_more(count: usize, most: usize, of: Counted) -> Result<usize, Reason>
+    ensures room { OnOk result (nat_le most count ≡ false) }
+    ensures raised { IfOk result (λ more. more ≡ count + 1) }
+    ensures full { IfErr result (λ reason. (nat_le most count ≡ true) × (reason ≡ Reason.TooMany of)) }
 {
     if most <= count {
-        Some(Reason::TooMany(of))
+        Err(Reason::TooMany(of))
     } else {
-        None
+        Ok(count + 1)
     }
 }

@@ -3,13 +3,14 @@ ghost use Rattle.pnml_grammar.specs.Tokens.{TokenAt, first_offset};
 ghost use Rattle.pnml_grammar.specs.Documents.{DocBytes};
 ghost use Rattle.pnml_grammar.specs.Machine.{start};
 ghost use Rattle.pnml_grammar.specs.ReadTo.{IsReadTo};
+ghost use Rattle.pnml_grammar.specs.Reasons.{reason_without_token as the_reason};
 ghost use Rattle.pnml_token.specs.Steps.{IfToken, IfEnd};
 ghost use Rattle.pnml_decode.specs.Views.{view};
-ghost use Rattle.pnml_decode.specs.Faults.{NamesFirstFault, IsMissing, missing_reason, declaration_end, refusal_at as the_refusal};
+ghost use Rattle.pnml_decode.specs.Faults.{NamesFirstFault, IfNoMemory, IsMissing, declaration_end, refusal_at as the_refusal};
 
 use crate::fault::DocFault;
 use crate::reader::Reader;
-use crate::stop::Stop;
+use crate::reader_fault::ReaderFault;
 use net_values::Document;
 use pnml_grammar::{Reason, Token};
 use pnml_token::{Step, TokenFault, token_at};
@@ -19,15 +20,16 @@ use std::alloc::Global;
 /// The one document that the bytes spell. It is PNML (ISO/IEC 15909-2) in a narrow profile of XML 1.0.
 ///
 /// Errors, in this order: `NotUtf8(length)` exactly where the bytes aren't UTF-8, with the length of their
-/// longest front that is; `At(offset, reason)` exactly where a offset is faulty, the first such, with the
+/// longest front that is; `At(offset, reason)` exactly where an offset is faulty, the first such, with the
 /// first reason that applies there; `Truncated(length)` exactly where the bytes begin a document and end
-/// before it is whole. `NoMemory` where memory runs out.
+/// before it is whole. `NoMemory` where memory runs out; bytes that aren't UTF-8 are told without any.
 pub fn decode(alloc: Global, bytes: &[u8]) -> Result<Document, DocFault>
     ensures found { IfOk result (λ document. DocBytes document bytes.now) }
     ensures fault { IfErr result (λ refusal. NamesFirstFault refusal bytes.now) }
+    ensures memory { IfErr result (λ refusal. IfNoMemory refusal (IsUtf8 bytes.now)) }
 {
-    if let Err(stop) = from_utf8(bytes) {
-        return Err(DocFault::NotUtf8(stop.valid_up_to() as u64));
+    if let Err(error) = from_utf8(bytes) {
+        return Err(DocFault::NotUtf8(error.valid_up_to() as u64));
     }
     let reader = read_tokens(alloc, bytes)?;
     match reader.finish() {
@@ -47,7 +49,7 @@ fn read_tokens(alloc: Global, bytes: &[u8]) -> Result<Reader, DocFault>
     'tokens: while let Step::Token(token, end) = step_at(alloc, bytes, offset)? {
         match reader.take(token) {
             Ok(()) => offset = end,
-            Err(stop) => return Err(refusal_at(offset, stop)),
+            Err(fault) => return Err(refusal_at(offset, fault)),
         }
     }
     Ok(reader)
@@ -80,7 +82,7 @@ fn after_mark(bytes: &[u8]) -> usize
     }
 }
 
-/// The end of the declaration that is there, if one does.
+/// The end of the declaration, where the step is one.
 fn end_of_declaration(step: &Step) -> Option<usize>
     ensures { result ≡ declaration_end step.now }
 {
@@ -101,15 +103,15 @@ fn step_at(alloc: Global, bytes: &[u8], offset: usize) -> Result<Step, DocFault>
         Ok(step) => Ok(step),
         Err(TokenFault::NoMemory) => Err(DocFault::NoMemory),
         Err(TokenFault::BadToken(at)) => Err(DocFault::At(
-            at as u64,
-            reason_without_token(&bytes[at..]),
+            at,
+            reason_without_token(&bytes[offset..]),
         )),
     }
 }
 
 /// Why bytes are refused that no token spells: they begin a document type, or nothing that is known.
 fn reason_without_token(rest: &[u8]) -> Reason
-    ensures { result ≡ missing_reason rest.now }
+    ensures { result ≡ the_reason rest.now }
 {
     if rest.starts_with(b"<!DOCTYPE") {
         Reason::Doctype
@@ -118,12 +120,12 @@ fn reason_without_token(rest: &[u8]) -> Reason
     }
 }
 
-/// What is answered where the reading stops at the offset.
-fn refusal_at(offset: usize, stop: Stop) -> DocFault
-    ensures { result ≡ the_refusal offset stop }
+/// What is answered where the reader doesn't take the token at the offset.
+fn refusal_at(offset: usize, fault: ReaderFault) -> DocFault
+    ensures { result ≡ the_refusal offset fault }
 {
-    match stop {
-        Stop::NoMemory => DocFault::NoMemory,
-        Stop::Because(reason) => DocFault::At(offset as u64, reason),
+    match fault {
+        ReaderFault::NoMemory => DocFault::NoMemory,
+        ReaderFault::Because(reason) => DocFault::At(offset as u64, reason),
     }
 }

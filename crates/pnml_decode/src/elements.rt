@@ -1,5 +1,5 @@
 ghost use Rattle.std.specs.Prelude.{◌≡◌};
-ghost use Rattle.pnml_grammar.specs.Elements.{is_skipped, context_in, context_of_kind, context_of_text, may_hold, needs};
+ghost use Rattle.pnml_grammar.specs.Elements.{is_skipped, context_of_kind, context_of_text, may_hold, needs};
 ghost use Rattle.pnml_grammar.specs.Reasons.{is_pnml, is_number_text};
 
 use pnml_grammar::{AttributeKind, Context, ElementKind};
@@ -37,17 +37,8 @@ pub(crate) fn is_number_text(context: Context, element: ElementKind) -> bool
         && matches!(element, ElementKind::Text)
 }
 
-/// What the children of an element are in; everything in a skipped part is skipped.
-pub(crate) fn context_in(context: Context, element: Option<ElementKind>) -> Context
-    ensures { result ≡ context_in context element }
-{
-    match (context, element) {
-        (Context::Skipped, _) | (_, None) => Context::Skipped,
-        (context, Some(element)) => context_of_kind(context, element),
-    }
-}
-
-fn context_of_kind(context: Context, element: ElementKind) -> Context
+/// What the children of an element are in.
+pub(crate) fn context_of_kind(context: Context, element: ElementKind) -> Context
     ensures { result ≡ context_of_kind context element }
 {
     match element {

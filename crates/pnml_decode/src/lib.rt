@@ -3,6 +3,7 @@
 #![tactic(auto)]
 
 mod attributes;
+mod checks;
 mod content;
 mod counts;
 mod document;
@@ -12,8 +13,7 @@ mod nodes;
 mod number;
 mod open;
 mod reader;
-mod reasons;
-mod stop;
+mod reader_fault;
 
 pub use document::decode;
 pub use fault::DocFault;

@@ -1,13 +1,17 @@
-ghost use Rattle.std.specs.Prelude.{◌≡◌, OnOk};
-ghost use Rattle.pnml_grammar.specs.Contents.{characters_content, cdata_content};
+ghost use Rattle.std.specs.Prelude.{◌≡◌, OnOk, option_to_list};
+ghost use Rattle.pnml_grammar.specs.Contents.{nothing, characters_content, cdata_content};
+ghost use Rattle.pnml_grammar.specs.Numerals.{number_in};
 ghost use Rattle.pnml_grammar.specs.OpenElements.{outermost};
-ghost use Rattle.pnml_decode.specs.Views.{Gains, Receives, frame, given_by};
+ghost use Rattle.pnml_grammar.specs.Reasons.{characters_rows, cdata_rows, name_rows, number_rows};
+ghost use Rattle.pnml_decode.specs.Taking.{Accepts};
+ghost use Rattle.pnml_decode.specs.Views.{Gains, Receives, frame, given, given_by};
 
-use crate::content::Content;
+use crate::content::{Content, has_some};
 use crate::nodes;
-use crate::number::number_in;
-use net_values::{Item, NoMemory, Text};
-use pnml_grammar::{Attributes, Context};
+use crate::number::{is_white, number_in};
+use crate::reader_fault::ReaderFault;
+use net_values::{Item, MAX_NAME_BYTES, NoMemory, Text};
+use pnml_grammar::{Attributes, Context, Counted, Reason};
 use std::alloc::Global;
 
 /// An open element: what is in it, its tag, and what its whole children have given.
@@ -33,29 +37,64 @@ impl Open {
     }
 
     /// Takes characters: bytes of a name, or a number; anywhere else they are white space.
-    pub(crate) fn take_characters(&mut self, value: Text) -> Result<(), NoMemory>
-        ensures { OnOk result (Receives self.old self.new (characters_content self.old.context value)) }
+    pub(crate) fn take_characters(&mut self, value: Text) -> Result<(), ReaderFault>
+        ensures { Accepts result self.old self.new
+            (characters_rows self.old.context (given self.old.content) value)
+            (characters_content self.old.context value) }
     {
         match self.context {
-            Context::NameText => self.content.give_bytes(value),
-            Context::MarkingText | Context::WeightText => {
-                match number_in(self.context, value.as_bytes()) {
-                    Some(number) => self.content.give_numeral(number),
-                    None => Ok(()),
-                }
-            }
-            _ => Ok(()),
+            Context::NameText => self.take_name_bytes(value),
+            Context::MarkingText | Context::WeightText => self.take_number(value.as_bytes()),
+            Context::Skipped => Ok(()),
+            _ if is_white(value.as_bytes()) => Ok(()),
+            _ => Err(ReaderFault::Because(Reason::Misplaced)),
         }
     }
 
     /// Takes what a section of literal characters says, bytes of a name.
-    pub(crate) fn take_cdata(&mut self, value: Text) -> Result<(), NoMemory>
-        ensures { OnOk result (Receives self.old self.new (cdata_content self.old.context value)) }
+    pub(crate) fn take_cdata(&mut self, value: Text) -> Result<(), ReaderFault>
+        ensures { Accepts result self.old self.new
+            (cdata_rows self.old.context (given self.old.content) value)
+            (cdata_content self.old.context value) }
     {
         match self.context {
-            Context::NameText => self.content.give_bytes(value),
-            _ => Ok(()),
+            Context::NameText => self.take_name_bytes(value),
+            Context::Skipped => Ok(()),
+            _ => Err(ReaderFault::Because(Reason::Misplaced)),
         }
+    }
+
+    /// Takes bytes of a name, of which there are only so many.
+    fn take_name_bytes(&mut self, value: Text) -> Result<(), ReaderFault>
+        ensures { Accepts result self.old self.new
+            (name_rows (given self.old.content) value)
+            (record nothing { bytes = value }) }
+    {
+        let length = self.content.bytes.as_bytes().len() + value.as_bytes().len();
+        if MAX_NAME_BYTES < length {
+            return Err(ReaderFault::Because(Reason::TooMany(Counted::NameBytes)));
+        }
+        self.content.give_bytes(value)?;
+        Ok(())
+    }
+
+    /// Takes the one number of a number's text, or white space.
+    fn take_number(&mut self, value: &[u8]) -> Result<(), ReaderFault>
+        ensures { Accepts result self.old self.new
+            (number_rows self.old.context (given self.old.content) value.now)
+            (record nothing { numerals = option_to_list (number_in self.old.context value.now) }) }
+    {
+        if is_white(value) {
+            return Ok(());
+        }
+        let Some(number) = number_in(self.context, value) else {
+            return Err(ReaderFault::Because(Reason::BadNumber));
+        };
+        if has_some(&self.content.numerals) {
+            return Err(ReaderFault::Because(Reason::Misplaced));
+        }
+        self.content.give_numeral(number)?;
+        Ok(())
     }
 
     /// Takes an element that is closed: what its children gave is made into what it gives.

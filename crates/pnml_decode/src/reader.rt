@@ -1,17 +1,15 @@
-ghost use Rattle.std.specs.Prelude.{◌≡◌, None, Some, OnOk, IfErr};
-ghost use Rattle.pnml_grammar.specs.Elements.{element_named};
-ghost use Rattle.pnml_grammar.specs.Machine.{start, reason_of, next, open_element, close_element, finish, the_one};
-ghost use Rattle.pnml_decode.specs.Views.{view, counted};
-ghost use Rattle.pnml_decode.specs.Room.{HasRoom};
-ghost use Rattle.pnml_decode.specs.Stops.{IfBecause};
+ghost use Rattle.std.specs.Prelude.{◌≡◌, OnOk};
+ghost use Rattle.pnml_grammar.specs.Machine.{start, close_element, finish, the_one};
+ghost use Rattle.pnml_grammar.specs.declared.token.Token.TheVariants as tokens;
+ghost use Rattle.pnml_decode.specs.Views.{view, Opens};
+ghost use Rattle.pnml_decode.specs.Taking.{Takes};
 
 use crate::content::Content;
 use crate::counts::Counts;
-use crate::elements::context_in;
 use crate::open::Open;
-use crate::stop::Stop;
+use crate::reader_fault::ReaderFault;
 use net_values::{Document, List, NetTree, NoMemory, Text};
-use pnml_grammar::{Attributes, Context, ElementKind, Token};
+use pnml_grammar::{Attributes, Reason, Token};
 use std::alloc::Global;
 
 /// Reads a document token by token: the innermost open element, those around it from the outside
@@ -35,20 +33,19 @@ impl Reader {
         }
     }
 
-    /// Takes the next token, or says the first reason why it can't are there.
-    pub(crate) fn take(&mut self, token: Token) -> Result<(), Stop>
-        ensures ok { OnOk result (
-            (reason_of (view self.old) token ≡ None)
-            × (view self.new ≡ next (view self.old) token)) }
-        ensures because { IfErr result (λ stop. IfBecause stop (λ reason.
-            reason_of (view self.old) token ≡ Some reason)) }
+    /// Takes the next token, or says the first reason that applies to it. Out of memory is said only where
+    /// none does.
+    pub(crate) fn take(&mut self, token: Token) -> Result<(), ReaderFault>
+        ensures { Takes result self.old self.new token }
     {
-        match self.reason_of(&token) {
-            Some(reason) => Err(Stop::Because(reason)),
-            None => {
-                self.next(token)?;
-                Ok(())
-            }
+        match token {
+            Token::Declaration => Err(ReaderFault::Because(Reason::Misplaced)),
+            Token::Comment | Token::Instruction => Ok(()),
+            Token::Cdata(value) => self.top.take_cdata(value),
+            Token::Start(name, attributes) => self.take_start(name, attributes),
+            Token::Empty(name, attributes) => self.take_empty(name, attributes),
+            Token::End(name) => self.take_end(&name),
+            Token::Characters(value) => self.top.take_characters(value),
         }
     }
 
@@ -64,52 +61,53 @@ impl Reader {
         }
     }
 
-    /// Takes a token against which there is no reason.
-    fn next(&mut self, token: Token) -> Result<(), NoMemory>
-        requires { reason_of (view self.old) token ≡ None }
-        ensures { OnOk result (view self.new ≡ next (view self.old) token) }
-    {
-        match token {
-            Token::Declaration | Token::Comment | Token::Instruction => Ok(()),
-            Token::Cdata(value) => self.top.take_cdata(value),
-            Token::Start(name, attributes) => self.open(name, attributes),
-            Token::Empty(name, attributes) => self.take_empty(name, attributes),
-            Token::End(_) => self.close(),
-            Token::Characters(value) => self.top.take_characters(value),
-        }
-    }
-
-    /// Opens an element and closes it. In a skipped part this leaves all as it is.
-    #[tactic(auto, using(crate::proofs::SkippedTags::skipped_empty))]
-    fn take_empty(&mut self, name: Text, attributes: Attributes) -> Result<(), NoMemory>
-        requires { HasRoom self.old.top.context (counted self.old.counts) (element_named name) }
-        ensures { OnOk result (
-            view self.new ≡ close_element (open_element (view self.old) name attributes)) }
-    {
-        match self.top.context {
-            Context::Skipped => Ok(()),
-            _ => {
-                self.open(name, attributes)?;
-                self.close()
-            }
-        }
-    }
-
     /// Opens an element.
-    fn open(&mut self, name: Text, attributes: Attributes) -> Result<(), NoMemory>
-        requires { HasRoom self.old.top.context (counted self.old.counts) (element_named name) }
-        ensures { OnOk result (view self.new ≡ open_element (view self.old) name attributes) }
+    fn take_start(&mut self, name: Text, attributes: Attributes) -> Result<(), ReaderFault>
+        ensures { Takes result self.old self.new (tokens.Start name attributes) }
     {
-        let outer = self.top.context;
-        let counts = self.counts.with_tag(outer, name.as_bytes());
+        let (context, counts) = self.admit(false, name.as_bytes(), attributes.as_slice())?;
         let opened = Open {
-            context: context_in(outer, ElementKind::named(name.as_bytes())),
+            context,
             name,
             attributes,
             content: Content::new(*self.under.allocator()),
         };
-        self.under.push(std::mem::replace(&mut self.top, opened))?;
+        self.open(opened)?;
         self.counts = counts;
+        Ok(())
+    }
+
+    /// Opens an element and closes it.
+    fn take_empty(&mut self, name: Text, attributes: Attributes) -> Result<(), ReaderFault>
+        ensures { Takes result self.old self.new (tokens.Empty name attributes) }
+    {
+        let (context, counts) = self.admit(true, name.as_bytes(), attributes.as_slice())?;
+        let alloc = *self.under.allocator();
+        let closed = Open {
+            context,
+            name,
+            attributes,
+            content: Content::new(alloc),
+        };
+        self.top.take_element(alloc, closed)?;
+        self.counts = counts;
+        Ok(())
+    }
+
+    /// Closes the innermost open element.
+    fn take_end(&mut self, name: &Text) -> Result<(), ReaderFault>
+        ensures { Takes result self.old self.new (tokens.End name.now) }
+    {
+        self.check_end(name)?;
+        self.close()?;
+        Ok(())
+    }
+
+    /// The element is the innermost from now on.
+    fn open(&mut self, element: Open) -> Result<(), NoMemory>
+        ensures { OnOk result (Opens self.old self.new element) }
+    {
+        self.under.push(std::mem::replace(&mut self.top, element))?;
         Ok(())
     }
 

@@ -3,6 +3,7 @@
 use Rattle.std.proofs.Common.{◌≡◌, ℕ, ◌+◌, ◌≤◌, true, List, [], ◌∷◌, ◌++◌, length, length-append, refl, sym, ap, subst, arith, append_assoc}
 use Rattle.std.specs.Prelude.{codes}
 use Rattle.std.proofs.lemmas.Bool.Decides.{nat_tests}
+use Rattle.net_values.specs.declared.limits.TheConstants.{MAX_NAME_BYTES}
 use Rattle.net_values.specs.Characters.{IsLegalText}
 use Rattle.pnml_grammar.specs.declared.token.Attribute.{Attribute}
 use Rattle.pnml_grammar.specs.declared.token.Token.{Token}
@@ -60,7 +61,7 @@ no_section_end bytes each before after e =
     let greater : is_clean 62 ≡ true = found.1.1.0 in
     cc
 
-characters_piece : (value : List ℕ) → 1 ≤ length (escaped value) → IsLegalText value → length value ≤ 65536 → IsPiece (tokens.Characters value) (escaped value)
+characters_piece : (value : List ℕ) → 1 ≤ length (escaped value) → IsLegalText value → length value ≤ MAX_NAME_BYTES → IsPiece (tokens.Characters value) (escaped value)
 characters_piece value some legal short = record {
   spells = record {
     some = some;
@@ -86,7 +87,7 @@ full : (name attributes text : List ℕ) → 1 ≤ length text → element name 
 full name attributes [] some = absurd (omega arith)
 full name attributes (b ∷ bs) some = append_assoc (start_tag name attributes) (b ∷ bs) (end_tag name)
 
-text_writes : (value : List ℕ) → IsLegalText value → length value ≤ 65536 → Writes (element (codes "text") [] (escaped value)) (element_tokens (codes "text") [] (value_tokens value))
+text_writes : (value : List ℕ) → IsLegalText value → length value ≤ MAX_NAME_BYTES → Writes (element (codes "text") [] (escaped value)) (element_tokens (codes "text") [] (value_tokens value))
 unfolding escaped
 text_writes [] legal short = empty_writes (codes "text") [] text_word no_attributes
 text_writes (b ∷ bs) legal short =
@@ -97,6 +98,6 @@ text_writes (b ∷ bs) legal short =
     (start_writes (codes "text") [] text_word no_attributes)
     (value_end value (characters_piece value some legal short)))
 
-pub label_writes : (name value : List ℕ) → IsWord name → IsLegalText value → length value ≤ 65536 → Writes (label name (escaped value)) (label_tokens name value)
+pub label_writes : (name value : List ℕ) → IsWord name → IsLegalText value → length value ≤ MAX_NAME_BYTES → Writes (label name (escaped value)) (label_tokens name value)
 label_writes name value is legal short =
     element_writes name [] (element (codes "text") [] (escaped value)) (element_tokens (codes "text") [] (value_tokens value)) is no_attributes (text_writes value legal short)

@@ -3,6 +3,7 @@
 use Rattle.std.proofs.Common.{◌≡◌, ℕ, ◌+◌, ◌<◌, ◌≤◌, Bool, true, false, cond, List, [], ◌∷◌, ◌++◌, Option, Some, None, length, refl, sym, subst, arith}
 use Rattle.std.specs.Prelude.{◌==◌, ◌||◌, codes, unwrap_or}
 use Rattle.std.proofs.lemmas.Bool.{eqb-true}
+use Rattle.net_values.specs.declared.limits.TheConstants.{MAX_OPEN_ELEMENTS}
 use Rattle.net_values.specs.declared.document.PageNode.{PageNode}
 use Rattle.net_values.specs.declared.document.PlaceNode.{PlaceNode}
 use Rattle.net_values.specs.declared.document.TransitionNode.{TransitionNode}
@@ -129,7 +130,7 @@ number_fits : (left_out : Bool) (height : ℕ) → left_out ≡ false → cond l
 number_fits left_out height e = rw e refl
 
 module _ (top : Frame) (under : List Frame) (counts : Counts) (holds : IsHolder top.context) where
-  pub item_free : (name : List ℕ) (element : ElementKind) → is_node_or_page element ≡ true → element_named name ≡ Some element → length under < 128 → IsWithin (counts plus counts_of_kind element)
+  pub item_free : (name : List ℕ) (element : ElementKind) → is_node_or_page element ≡ true → element_named name ≡ Some element → length under < MAX_OPEN_ELEMENTS → IsWithin (counts plus counts_of_kind element)
       → IsFree top under counts name element
   item_free name element item is room within = record {
     read = holder_reads top.context holds;
@@ -148,12 +149,12 @@ module _ (top : Frame) (under : List Frame) (counts : Counts) (holds : IsHolder 
   with_item item = record { top = receive (one_item item) top; under = under; counts = counts plus counts_of_kind (kind_of item) }
 
   abbrev Reads : Item → Type 0
-  Reads item = HasValuesInRange item → length under + item_height item ≤ 128 → IsWithin (counts plus counts_of_kind (kind_of item)) → Leads now (item_tokens item) (with_item item)
+  Reads item = HasValuesInRange item → length under + item_height item ≤ MAX_OPEN_ELEMENTS → IsWithin (counts plus counts_of_kind (kind_of item)) → Leads now (item_tokens item) (with_item item)
 
   -- an element that has a name and no other children
   named_leads : (own : List ℕ) (attributes : List Attribute) (element : ElementKind) (name : Option (List ℕ)) → is_node_or_page element ≡ true → element_named own ≡ Some element → HasAttributes element attributes
       → is_read (context_of_kind top.context element) ≡ true → may_hold (context_of_kind top.context element) elements.Name ≡ true → is_pnml element ≡ false
-      → IsNameIfAny name → length under + (1 + name_height name) ≤ 128 → IsWithin (counts plus counts_of_kind element)
+      → IsNameIfAny name → length under + (1 + name_height name) ≤ MAX_OPEN_ELEMENTS → IsWithin (counts plus counts_of_kind element)
       → IsTaken (inside top under counts own attributes element (named name)) (tokens.End own)
       → Leads now (element_tokens own attributes (name_tokens name))
       (record { top = receive (gives (context_of_kind top.context element) attributes (named name)) top; under = under; counts = counts plus counts_of_kind element })
@@ -221,7 +222,7 @@ module _ (top : Frame) (under : List Frame) (counts : Counts) (holds : IsHolder 
   unfolding element_named element_names element_kinds
   page_is = refl
 
-  page_free : (page : PageNode) → HasValuesInRange (Page page) → length under + item_height (Page page) ≤ 128 → IsWithin (counts plus counts_of_kind elements.Page)
+  page_free : (page : PageNode) → HasValuesInRange (Page page) → length under + item_height (Page page) ≤ MAX_OPEN_ELEMENTS → IsWithin (counts plus counts_of_kind elements.Page)
       → IsFree top under counts (codes "page") elements.Page
   page_free page is room within = item_free (codes "page") elements.Page refl page_is (omega arith) within
 
@@ -232,11 +233,11 @@ module _ (top : Frame) (under : List Frame) (counts : Counts) (holds : IsHolder 
   abbrev in_page : PageNode → State
   in_page page = record { top = page_frame page []; under = top ∷ under; counts = counts plus counts_of_kind elements.Page }
 
-  page_named : (page : PageNode) → HasValuesInRange (Page page) → length under + item_height (Page page) ≤ 128
+  page_named : (page : PageNode) → HasValuesInRange (Page page) → length under + item_height (Page page) ≤ MAX_OPEN_ELEMENTS
       → Leads (inside top under counts (codes "page") (id_of page.id ∷ []) elements.Page nothing) (name_tokens page.name) (in_page page)
   page_named page is room = name_leads contexts.Page (codes "page") (id_of page.id ∷ []) (top ∷ under) (counts plus counts_of_kind elements.Page) page.name refl refl is.1 (omega arith)
 
-  pub page_opens : (page : PageNode) → HasValuesInRange (Page page) → length under + item_height (Page page) ≤ 128 → IsWithin (counts plus counts_of_kind elements.Page)
+  pub page_opens : (page : PageNode) → HasValuesInRange (Page page) → length under + item_height (Page page) ≤ MAX_OPEN_ELEMENTS → IsWithin (counts plus counts_of_kind elements.Page)
       → Leads now (item_tokens (Page page)) (in_page page)
   page_opens page is room within =
       let free = page_free page is room within in
@@ -247,7 +248,7 @@ module _ (top : Frame) (under : List Frame) (counts : Counts) (holds : IsHolder 
       (page_named page is room)
 
   -- a page without items
-  pub empty_page_reads : (page : PageNode) → HasValuesInRange (Page page) → length under + item_height (Page page) ≤ 128 → IsWithin (counts plus counts_of_kind elements.Page)
+  pub empty_page_reads : (page : PageNode) → HasValuesInRange (Page page) → length under + item_height (Page page) ≤ MAX_OPEN_ELEMENTS → IsWithin (counts plus counts_of_kind elements.Page)
       → Leads now (element_tokens (codes "page") (id_of page.id ∷ []) (name_tokens page.name))
       (record { top = receive (record nothing { items = Page page ∷ PageEnd ∷ [] }) top; under = under; counts = counts plus counts_of_kind elements.Page })
   empty_page_reads page is room within =

@@ -3,6 +3,7 @@ use Rattle.std.proofs.Common.{◌≡◌, ℕ, ◌+◌, ◌<◌, ◌≤◌, ◌^�
 use Rattle.std.specs.Prelude.{◌==◌, ◌&&◌, not, nat_lt, codes, decimal, is_none}
 use Rattle.std.proofs.lemmas.Bool.{lt-leb}
 use Rattle.std.proofs.lemmas.Fmt.{decimal_nonempty}
+use Rattle.net_values.specs.declared.limits.TheConstants.{MAX_NAME_BYTES, MAX_OPEN_ELEMENTS}
 use Rattle.pnml_grammar.specs.declared.element.ElementKind.{ElementKind}
 use Rattle.pnml_grammar.specs.declared.element.ElementKind.TheVariants as elements
 use Rattle.pnml_grammar.specs.declared.element.Context.{Context}
@@ -98,10 +99,10 @@ named name = record nothing { names = names_of name }
 abbrev pub frame : Context → List ℕ → List Attribute → Content → Frame
 frame context name attributes content = record { context = context; name = name; attributes = attributes; content = content }
 
-not_long : (value : List ℕ) → length value ≤ 65536 → nat_lt 65536 (length {A = ℕ} [] + length value) ≡ false
+not_long : (value : List ℕ) → length value ≤ MAX_NAME_BYTES → nat_lt MAX_NAME_BYTES (length {A = ℕ} [] + length value) ≡ false
 not_long value short = lt-leb 65537 (length {A = ℕ} [] + length value) (omega arith)
 
-name_value_leads : (own : List ℕ) (attributes : List Attribute) (under : List Frame) (counts : Counts) (value : List ℕ) → length value ≤ 65536
+name_value_leads : (own : List ℕ) (attributes : List Attribute) (under : List Frame) (counts : Counts) (value : List ℕ) → length value ≤ MAX_NAME_BYTES
     → Leads (record { top = frame contexts.NameText own attributes nothing; under = under; counts = counts }) (value_tokens value)
     (record { top = frame contexts.NameText own attributes (record nothing { bytes = value }); under = under; counts = counts })
 name_value_leads own attributes under counts [] short = leads_nowhere _
@@ -116,13 +117,13 @@ second_text _ = refl
 second_name : (context : Context) → is_second context nothing elements.Name ≡ false
 second_name context = refl
 
-text_free : (context : Context) (own : List ℕ) (under : List Frame) (counts : Counts) → is_read context ≡ true → may_hold context elements.Text ≡ true → length under < 128
+text_free : (context : Context) (own : List ℕ) (under : List Frame) (counts : Counts) → is_read context ≡ true → may_hold context elements.Text ≡ true → length under < MAX_OPEN_ELEMENTS
     → IsFree (frame context own [] nothing) under counts (codes "text") elements.Text
 unfolding element_named element_names element_kinds
 text_free context own under counts read held room =
     record { read = read; named = refl; held = held; first = second_text context; room = room; counted = refl }
 
-name_free : (context : Context) (own : List ℕ) (attributes : List Attribute) (under : List Frame) (counts : Counts) → is_read context ≡ true → may_hold context elements.Name ≡ true → length under < 128
+name_free : (context : Context) (own : List ℕ) (attributes : List Attribute) (under : List Frame) (counts : Counts) → is_read context ≡ true → may_hold context elements.Name ≡ true → length under < MAX_OPEN_ELEMENTS
     → IsFree (frame context own attributes nothing) under counts (codes "name") elements.Name
 unfolding element_named element_names element_kinds
 name_free context own attributes under counts read held room =
@@ -130,7 +131,7 @@ name_free context own attributes under counts read held room =
 
 -- a name, the first child of its element
 pub name_leads : (context : Context) (own : List ℕ) (attributes : List Attribute) (under : List Frame) (counts : Counts) (name : Option (List ℕ))
-    → is_read context ≡ true → may_hold context elements.Name ≡ true → IsNameIfAny name → length under + name_height name ≤ 128
+    → is_read context ≡ true → may_hold context elements.Name ≡ true → IsNameIfAny name → length under + name_height name ≤ MAX_OPEN_ELEMENTS
     → Leads (record { top = frame context own attributes nothing; under = under; counts = counts }) (name_tokens name)
     (record { top = frame context own attributes (named name); under = under; counts = counts })
 name_leads context own attributes under counts None read held is room = leads_nowhere _
@@ -180,12 +181,12 @@ value_some (b ∷ bs) some e = absurd cc
 abbrev pub with_number : Option (List ℕ) → ℕ → Content
 with_number name number = named name then record nothing { numbers = Some number ∷ [] }
 
-marking_free : (own : List ℕ) (attributes : List Attribute) (name : Option (List ℕ)) (under : List Frame) (counts : Counts) → length under < 128
+marking_free : (own : List ℕ) (attributes : List Attribute) (name : Option (List ℕ)) (under : List Frame) (counts : Counts) → length under < MAX_OPEN_ELEMENTS
     → IsFree (frame contexts.Place own attributes (named name)) under counts (codes "initialMarking") elements.InitialMarking
 unfolding element_named element_names element_kinds
 marking_free own attributes name under counts room = record { read = refl; named = refl; held = refl; first = refl; room = room; counted = refl }
 
-weight_free : (own : List ℕ) (attributes : List Attribute) (name : Option (List ℕ)) (under : List Frame) (counts : Counts) → length under < 128
+weight_free : (own : List ℕ) (attributes : List Attribute) (name : Option (List ℕ)) (under : List Frame) (counts : Counts) → length under < MAX_OPEN_ELEMENTS
     → IsFree (frame contexts.Arc own attributes (named name)) under counts (codes "inscription") elements.Inscription
 unfolding element_named element_names element_kinds
 weight_free own attributes name under counts room = record { read = refl; named = refl; held = refl; first = refl; room = room; counted = refl }
@@ -195,7 +196,7 @@ abbrev pub numbered : Bool → Option (List ℕ) → ℕ → Content
 numbered true name number = named name
 numbered false name number = with_number name number
 
-marking_label : (own : List ℕ) (attributes : List Attribute) (under : List Frame) (counts : Counts) (name : Option (List ℕ)) (number : ℕ) → number < 2 ^ 64 → length under + 2 ≤ 128
+marking_label : (own : List ℕ) (attributes : List Attribute) (under : List Frame) (counts : Counts) (name : Option (List ℕ)) (number : ℕ) → number < 2 ^ 64 → length under + 2 ≤ MAX_OPEN_ELEMENTS
     → Leads (record { top = frame contexts.Place own attributes (named name); under = under; counts = counts }) (label_tokens (codes "initialMarking") (decimal number))
     (record { top = frame contexts.Place own attributes (with_number name number); under = under; counts = counts })
 marking_label own attributes under counts name number small room =
@@ -209,7 +210,7 @@ marking_label own attributes under counts name number small room =
     (marking_taken (codes "text") (frame contexts.InitialMarking (codes "initialMarking") [] nothing ∷ top ∷ under) (counts plus no_counts) number (decimal number) (decimal_marking number small)) (rw (decimal_marking number small) refl))
     refl refl
 
-weight_label : (own : List ℕ) (attributes : List Attribute) (under : List Frame) (counts : Counts) (name : Option (List ℕ)) (number : ℕ) → 1 ≤ number → number < 2 ^ 64 → length under + 2 ≤ 128
+weight_label : (own : List ℕ) (attributes : List Attribute) (under : List Frame) (counts : Counts) (name : Option (List ℕ)) (number : ℕ) → 1 ≤ number → number < 2 ^ 64 → length under + 2 ≤ MAX_OPEN_ELEMENTS
     → Leads (record { top = frame contexts.Arc own attributes (named name); under = under; counts = counts }) (label_tokens (codes "inscription") (decimal number))
     (record { top = frame contexts.Arc own attributes (with_number name number); under = under; counts = counts })
 weight_label own attributes under counts name number positive small room =
@@ -231,14 +232,14 @@ unless : (left_out : Bool) (context : Context) (own : List ℕ) (attributes : Li
 unless true context own attributes under counts name number list leads = leads_nowhere _
 unless false context own attributes under counts name number list leads = leads refl
 
-pub marking_leads : (own : List ℕ) (attributes : List Attribute) (under : List Frame) (counts : Counts) (name : Option (List ℕ)) (number : ℕ) → number < 2 ^ 64 → ((number == 0) ≡ false → length under + 2 ≤ 128)
+pub marking_leads : (own : List ℕ) (attributes : List Attribute) (under : List Frame) (counts : Counts) (name : Option (List ℕ)) (number : ℕ) → number < 2 ^ 64 → ((number == 0) ≡ false → length under + 2 ≤ MAX_OPEN_ELEMENTS)
     → Leads (record { top = frame contexts.Place own attributes (named name); under = under; counts = counts }) (marking_tokens number)
     (record { top = frame contexts.Place own attributes (numbered (number == 0) name number); under = under; counts = counts })
 marking_leads own attributes under counts name number small room =
     unless (number == 0) contexts.Place own attributes under counts name number _ (λ positive. marking_label own attributes under counts name number small (room positive))
 
 pub weight_leads : (own : List ℕ) (attributes : List Attribute) (under : List Frame) (counts : Counts) (name : Option (List ℕ)) (number : ℕ) → 1 ≤ number → number < 2 ^ 64
-    → ((number == 1) ≡ false → length under + 2 ≤ 128)
+    → ((number == 1) ≡ false → length under + 2 ≤ MAX_OPEN_ELEMENTS)
     → Leads (record { top = frame contexts.Arc own attributes (named name); under = under; counts = counts }) (weight_tokens number)
     (record { top = frame contexts.Arc own attributes (numbered (number == 1) name number); under = under; counts = counts })
 weight_leads own attributes under counts name number positive small room =

@@ -1,9 +1,7 @@
 -- The canonical text spells its document: its tokens occur in it, each with legal texts, and they are read as
 -- the document.
 use Rattle.std.proofs.Common.{sym, ap, subst, length}
-use Rattle.net_values.specs.declared.document.Document.{Document}
 use Rattle.pnml_grammar.specs.Tokens.{first_offset}
-use Rattle.pnml_grammar.specs.Valued.{Valued}
 use Rattle.pnml_grammar.specs.Documents.{DocBytes}
 use Rattle.pnml_grammar.specs.Canon.{canon}
 use Rattle.pnml_grammar.specs.CanonicalTexts.{SpellTheirDocuments, TellDocumentsApart}

@@ -4,6 +4,7 @@ use Rattle.std.proofs.Common.{◌≡◌, ℕ, ◌+◌, ◌-◌, ◌≤◌, cond,
 use Rattle.std.specs.Prelude.{codes, count_by}
 use Rattle.std.specs.List.{AllByRecursion}
 use Rattle.std.proofs.lemmas.List.Sums.{sum_by-cons}
+use Rattle.net_values.specs.declared.limits.TheConstants.{MAX_OPEN_ELEMENTS}
 use Rattle.net_values.specs.Items.{is_page, is_place, is_transition, is_arc, is_reference}
 use Rattle.net_values.specs.declared.document.PageNode.{PageNode}
 use Rattle.net_values.specs.declared.document.Item.{Item}
@@ -82,7 +83,7 @@ around_end front inner end more = simp append_assoc
 
 -- ---- nodes among the items
 
-shallow_node : (item : Item) (more : List Item) (n : ℕ) → IsNode item → IsShallow n (item ∷ more) → (n + item_height item ≤ 128) × IsShallow n more
+shallow_node : (item : Item) (more : List Item) (n : ℕ) → IsNode item → IsShallow n (item ∷ more) → (n + item_height item ≤ MAX_OPEN_ELEMENTS) × IsShallow n more
 shallow_node (Page page) more n node shallow = absurd node
 shallow_node PageEnd more n node shallow = absurd node
 shallow_node _ more n node shallow = shallow
@@ -205,7 +206,7 @@ module _ (id : List ℕ) (name : Option (List ℕ)) where
       let low = shallow_node item more (2 + length ps) node shallow in
       let one : Leads (state_of items ps counts) (item_tokens item) (record { top = receive (record nothing { items = item ∷ [] }) (top_of items ps); under = under_of items ps; counts = counts plus own_counts item }) =
       subst (λ own. Leads (state_of items ps counts) (item_tokens item) (record { top = receive (record nothing { items = item ∷ [] }) (top_of items ps); under = under_of items ps; counts = counts plus own })) kind
-      (node_reads (top_of items ps) (under_of items ps) counts (holds items ps) item node range.0 (subst (λ (n : ℕ). n + item_height item ≤ 128) (sym (under_length items ps)) low.0)
+      (node_reads (top_of items ps) (under_of items ps) counts (holds items ps) item node range.0 (subst (λ (n : ℕ). n + item_height item ≤ MAX_OPEN_ELEMENTS) (sym (under_length items ps)) low.0)
       (subst (λ own. IsWithin (counts plus own)) (sym kind) (within_front (counts plus own_counts item) (items_counts more) some)))
       in
       let all = then_others more items ps (item ∷ []) (counts plus own_counts item) (state_of items ps counts) (item_tokens item) claim one range.1 (pages_node item more (length ps) node pages) low.1 some in
@@ -224,7 +225,7 @@ module _ (id : List ℕ) (name : Option (List ℕ)) where
       let these = Page page ∷ PageEnd ∷ [] in
       let one =
       empty_page_reads (top_of items ps) (under_of items ps) counts (holds items ps) page range.0
-      (subst (λ (n : ℕ). n + item_height (Page page) ≤ 128) (sym (under_length items ps)) shallow.0) (within_front own (items_counts more) some)
+      (subst (λ (n : ℕ). n + item_height (Page page) ≤ MAX_OPEN_ELEMENTS) (sym (under_length items ps)) shallow.0) (within_front own (items_counts more) some)
       in
       let all =
       then_others more items ps these own (state_of items ps counts) (element_tokens (codes "page") (id_of page.id ∷ []) (name_tokens page.name)) claim one range.1.1
@@ -242,7 +243,7 @@ module _ (id : List ℕ) (name : Option (List ℕ)) where
       let within_page = record { page = page; items = [] } ∷ ps in
       let one : Leads (state_of items ps counts) (item_tokens (Page page)) (state_of items within_page own) =
       page_opens (top_of items ps) (under_of items ps) counts (holds items ps) page range.0
-      (subst (λ (n : ℕ). n + item_height (Page page) ≤ 128) (sym (under_length items ps)) shallow.0) (within_front own (items_counts more) some)
+      (subst (λ (n : ℕ). n + item_height (Page page) ≤ MAX_OPEN_ELEMENTS) (sym (under_length items ps)) shallow.0) (within_front own (items_counts more) some)
       in
       let others = claim items within_page own range.1 (subst (λ (n : ℕ). PagesMatch n more) (omega arith) pages) (subst (λ (n : ℕ). IsShallow n more) (omega arith) shallow.1) some in
       arrives (state_of items ps counts) (item_tokens (Page page) ++ items_tokens more) (items_tokens (Page page ∷ more)) (flat items ps ++ Page page ∷ [] ++ more) (flat items ps ++ Page page ∷ more)

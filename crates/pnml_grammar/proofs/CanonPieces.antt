@@ -7,6 +7,7 @@ use Rattle.std.specs.List.{AllByRecursion, AllZip, list_all, flat_map}
 use Rattle.std.proofs.lemmas.Bool.{and_parts, leb-true}
 use Rattle.std.proofs.lemmas.Bool.Decides.{nat_tests}
 use Rattle.std.proofs.lemmas.List.{drop_at, drop-drop, length-drop}
+use Rattle.net_values.specs.declared.limits.TheConstants.{MAX_ID_BYTES, MAX_TOKEN_BYTES}
 use Rattle.net_values.specs.Characters.{IsLegalText}
 use Rattle.pnml_grammar.specs.declared.token.Attribute.{Attribute}
 use Rattle.pnml_grammar.specs.declared.token.Token.{Token}
@@ -16,7 +17,7 @@ use Rattle.pnml_grammar.specs.Names.{IsName, is_name_start, is_name_byte}
 use Rattle.pnml_grammar.specs.Values.{Denotes}
 use Rattle.pnml_grammar.specs.Attributes.{Written, written, IsWritten, IsAttribute, HaveDistinctNames, is_value_byte}
 use Rattle.pnml_grammar.specs.Tags.{IsTag}
-use Rattle.pnml_grammar.specs.Tokens.{IsSpelling, MayFollow, Occurs, TokensTo, spelling_limit}
+use Rattle.pnml_grammar.specs.Tokens.{IsSpelling, MayFollow, Occurs, TokensTo}
 use Rattle.pnml_grammar.specs.Canon.{escaped, start_tag, end_tag, empty_tag}
 use Rattle.pnml_grammar.proofs.LegalLaws.{legal_join, legal_nothing}
 use Rattle.pnml_grammar.proofs.EscapeLaws.{is_printed, printed_text, is_clean, escaped_clean, escaped_short, escaped_resolves, escaped_spaced, escaped_legal}
@@ -47,7 +48,7 @@ writes_nothing rest = refl
 pub record IsPiece (token : Token) (text : List ℕ) : Type 0 where
   pub spells : IsSpelling token text
   pub legal : IsLegalText text
-  pub short : length text ≤ spelling_limit
+  pub short : length text ≤ MAX_TOKEN_BYTES
 
 pub piece_occurs : (token : Token) (text rest : List ℕ) → IsPiece token text → MayFollow token rest → Occurs (text ++ rest) token text rest
 piece_occurs token text rest piece follows = record { parts = refl; spells = piece.spells; legal = piece.legal; short = piece.short; follows = follows }
@@ -113,7 +114,7 @@ attributes_text attributes = flat_map written (map written_attribute attributes)
 pub record IsPlainAttribute (a : Attribute) : Type 0 where
   pub name : IsWord a.name
   pub value : IsLegalText a.value
-  pub short : length a.value ≤ 4096
+  pub short : length a.value ≤ MAX_ID_BYTES
 
 pub record ArePlain (attributes : List Attribute) : Type 0 where
   pub each : AllByRecursion IsPlainAttribute attributes
@@ -197,7 +198,7 @@ tag_legal close name attributes closes is plain =
     (attributes_legal attributes plain.each))
     (printed_text close closes)
 
-tag_short : (close name : List ℕ) (attributes : List Attribute) → length close ≤ 2 → IsWord name → ArePlain attributes → length (((codes "<" ++ name) ++ attributes_text attributes) ++ close) ≤ spelling_limit
+tag_short : (close name : List ℕ) (attributes : List Attribute) → length close ≤ 2 → IsWord name → ArePlain attributes → length (((codes "<" ++ name) ++ attributes_text attributes) ++ close) ≤ MAX_TOKEN_BYTES
 tag_short close name attributes closes is plain =
     omega (
       arith,

@@ -8,6 +8,7 @@ use Rattle.std.proofs.lemmas.Bool.{and_from, lt-leb, le-leb, cases_lt}
 use Rattle.std.proofs.lemmas.Bool.Decides.{nat_tests}
 use Rattle.std.proofs.lemmas.List.Folds.{list_all-append}
 use Rattle.std.proofs.lemmas.Str.{encode_ascii}
+use Rattle.net_values.specs.declared.limits.TheConstants.{MAX_ARCS, MAX_ID_BYTES, MAX_OPEN_ELEMENTS, MAX_PAGES, MAX_PLACES, MAX_REFERENCES, MAX_TRANSITIONS}
 use Rattle.net_values.specs.Characters.{IsIdCharacter, IsId}
 use Rattle.pnml_grammar.specs.declared.element.ElementKind.{ElementKind}
 use Rattle.pnml_grammar.specs.declared.element.ElementKind.TheVariants as elements
@@ -58,8 +59,8 @@ id_bytes (c ∷ cs) each =
 pub id_is : (id : List ℕ) → IsId id → is_id id ≡ true
 unfolding is_id
 id_is id is =
-    and_from (nat_le 1 (length id) && nat_le (length id) 4096) (list_all is_id_byte id)
-    (and_from (nat_le 1 (length id)) (nat_le (length id) 4096) (le-leb 1 (length id) is.nonempty) (le-leb (length id) 4096 is.short))
+    and_from (nat_le 1 (length id) && nat_le (length id) MAX_ID_BYTES) (list_all is_id_byte id)
+    (and_from (nat_le 1 (length id)) (nat_le (length id) MAX_ID_BYTES) (le-leb 1 (length id) is.nonempty) (le-leb (length id) MAX_ID_BYTES is.short))
     (ap (list_all is_id_byte) (sym is.characters.2) ∙ id_bytes is.characters.0 is.characters.1)
 
 -- ---- attributes
@@ -132,17 +133,17 @@ pub record IsFree (top : Frame) (under : List Frame) (counts : Counts) (name : L
   pub named : element_named name ≡ Some element
   pub held : may_hold top.context element ≡ true
   pub first : is_second top.context top.content element ≡ false
-  pub room : length under < 128
+  pub room : length under < MAX_OPEN_ELEMENTS
   pub counted : first_row (count_rows counts element) ≡ None
 
 -- limits leave room for what is counted
 pub counted_room : (element : ElementKind) (counts : Counts) → IsWithin (counts plus counts_of_kind element) → first_row (count_rows counts element) ≡ None
-counted_room elements.Place counts within = rw (lt-leb 2048 counts.places (omega (arith, within.places))) refl
-counted_room elements.Transition counts within = rw (lt-leb 2048 counts.transitions (omega (arith, within.transitions))) refl
-counted_room elements.Arc counts within = rw (lt-leb 65536 counts.arcs (omega (arith, within.arcs))) refl
-counted_room elements.ReferencePlace counts within = rw (lt-leb 4096 counts.references (omega (arith, within.references))) refl
-counted_room elements.ReferenceTransition counts within = rw (lt-leb 4096 counts.references (omega (arith, within.references))) refl
-counted_room elements.Page counts within = rw (lt-leb 1024 counts.pages (omega (arith, within.pages))) refl
+counted_room elements.Place counts within = rw (lt-leb MAX_PLACES counts.places (omega (arith, within.places))) refl
+counted_room elements.Transition counts within = rw (lt-leb MAX_TRANSITIONS counts.transitions (omega (arith, within.transitions))) refl
+counted_room elements.Arc counts within = rw (lt-leb MAX_ARCS counts.arcs (omega (arith, within.arcs))) refl
+counted_room elements.ReferencePlace counts within = rw (lt-leb MAX_REFERENCES counts.references (omega (arith, within.references))) refl
+counted_room elements.ReferenceTransition counts within = rw (lt-leb MAX_REFERENCES counts.references (omega (arith, within.references))) refl
+counted_room elements.Page counts within = rw (lt-leb MAX_PAGES counts.pages (omega (arith, within.pages))) refl
 counted_room _ counts within = refl
 
 rows_none : (state : State) (empty : Bool) (attributes : List Attribute) (element : ElementKind) → has_namespace element attributes ≡ true → has_type element attributes ≡ true → has_attributes element attributes ≡ true
@@ -150,9 +151,9 @@ rows_none : (state : State) (empty : Bool) (attributes : List Attribute) (elemen
     → is_full state ≡ false → first_row (count_rows state.counts element) ≡ None → first_row (tag_rows state empty attributes (Some element)) ≡ None
 rows_none state empty attributes element e0 e1 e2 e3 e4 e5 e6 e7 e8 = rw (e0, e1, e2, e3, e4, e5, e6, e7) e8
 
-not_full : (state : State) → length state.under < 128 → is_full state ≡ false
+not_full : (state : State) → length state.under < MAX_OPEN_ELEMENTS → is_full state ≡ false
 unfolding is_full
-not_full state room = lt-leb 128 (length state.under) room
+not_full state room = lt-leb MAX_OPEN_ELEMENTS (length state.under) room
 
 open_read : (context : Context) (state : State) (empty : Bool) (name : List ℕ) (attributes : List Attribute) → is_read context ≡ true
     → open_rows_in context state empty name attributes ≡ tag_rows state empty attributes (element_named name)

@@ -1,9 +1,10 @@
 -- What children give, one after the other, and how many elements they count: both are associative, with an
 -- empty one on either side. Whether an element has few of each is a matter of lengths only.
 use Rattle.std.proofs.Common.{◌≡◌, ◌+◌, ◌≤◌, append_assoc, append-nil, length, length-append, arith, add_assoc, add-zero, zero-add}
+use Rattle.net_values.specs.declared.limits.TheConstants.{MAX_NAME_BYTES}
 use Rattle.pnml_grammar.specs.Contents.{Content, nothing, ◌then◌}
 use Rattle.pnml_grammar.specs.Counts.{Counts, no_counts, ◌plus◌, IsWithin}
-use Rattle.pnml_grammar.specs.Documents.{HasFew, name_limit}
+use Rattle.pnml_grammar.specs.Documents.{HasFew}
 
 -- ---- contents
 
@@ -76,7 +77,7 @@ pub record HaveFew (a b : Content) : Type 0 where
   pub names : length a.names + length b.names ≤ 1
   pub numbers : length a.numbers + length b.numbers ≤ 1
   pub texts : length a.texts + length b.texts ≤ 1
-  pub bytes : length a.bytes + length b.bytes ≤ name_limit
+  pub bytes : length a.bytes + length b.bytes ≤ MAX_NAME_BYTES
   pub numerals : length a.numerals + length b.numerals ≤ 1
 
 pub few_parts : (a b : Content) → HasFew (a then b) → HaveFew a b

@@ -3,6 +3,7 @@
 use Rattle.std.proofs.Common.{◌≡◌, ◌≤◌, refl, sym, ap, ap₂, subst, ◌∙◌, List, [], ◌∷◌, ◌++◌, append_assoc, append-nil, length, Option, Some, None, Bool, true, false, IsTrue, arith, true≢false}
 use Rattle.std.specs.List.{AllByRecursion}
 use Rattle.std.proofs.lemmas.Bool.{and_parts}
+use Rattle.net_values.specs.declared.limits.TheConstants.{MAX_OPEN_ELEMENTS}
 use Rattle.net_values.specs.declared.document.Document.{Document}
 use Rattle.net_values.specs.declared.document.NetTree.{NetTree}
 use Rattle.pnml_grammar.specs.declared.element.ElementKind.{ElementKind}
@@ -15,7 +16,7 @@ use Rattle.pnml_grammar.specs.Elements.{element_named, context_if_any, may_hold,
 use Rattle.pnml_grammar.specs.Trees.{Node, element, empty_element, comment, instruction, cdata, characters, Nodes, none, ◌and◌, nodes_tokens, nodes_height}
 use Rattle.pnml_grammar.specs.Contents.{Content, nothing, ◌then◌, gives, node_content, nodes_content}
 use Rattle.pnml_grammar.specs.Counts.{nodes_counts}
-use Rattle.pnml_grammar.specs.Documents.{depth_limit, HasFew, IsChild, EachChild, opening, Spells, SpellOneDocument}
+use Rattle.pnml_grammar.specs.Documents.{HasFew, IsChild, EachChild, opening, Spells, SpellOneDocument}
 use Rattle.pnml_grammar.specs.Tokens.{first_offset}
 use Rattle.pnml_grammar.specs.LegalTexts.{HasLegalTexts}
 use Rattle.pnml_grammar.specs.OpenElements.{State, Opened, Spot, IsAfter, opened_tokens, state_of}
@@ -110,7 +111,7 @@ reached_spot list state e = let occurs = reached_occurs list state e in (occurs.
 spells_from : (declared : Bool) (nodes : Nodes) (list : List Token) (net : NetTree) → list ≡ opening declared ++ nodes_tokens nodes → IsSound (spot_at declared [] nodes)
     → AllByRecursion HasLegalTexts list → (nodes_content contexts.Document nodes).nets ≡ net ∷ [] → Spells (record { net = net }) list
 spells_from declared nodes list net list_is sound legal one =
-    let low : nodes_height nodes ≤ depth_limit = omega (arith, sound.hold.shallow) in
+    let low : nodes_height nodes ≤ MAX_OPEN_ELEMENTS = omega (arith, sound.hold.shallow) in
     let texts = each_back HasLegalTexts (opening declared) (nodes_tokens nodes) (subst (AllByRecursion HasLegalTexts) list_is legal) in
     record {
       declared = declared;

@@ -3,6 +3,7 @@
 use Rattle.std.proofs.Common.{◌≡◌, ◌+◌, ◌≤◌, inl, inr, refl, sym, ap, subst, ◌∙◌, List, [], ◌∷◌, ◌++◌, append_assoc, append-nil, length, Bool, true, IsTrue, arith, true≢false}
 use Rattle.std.specs.List.{AllByRecursion}
 use Rattle.std.proofs.lemmas.Bool.{cases_Bool}
+use Rattle.net_values.specs.declared.limits.TheConstants.{MAX_OPEN_ELEMENTS}
 use Rattle.net_values.specs.declared.document.NetTree.{NetTree}
 use Rattle.pnml_grammar.specs.declared.element.Context.TheVariants as contexts
 use Rattle.pnml_grammar.specs.declared.token.Token.{Token}
@@ -11,7 +12,7 @@ use Rattle.pnml_grammar.specs.Elements.{element_named}
 use Rattle.pnml_grammar.specs.Trees.{Node, Nodes, node_tokens, nodes_tokens, node_height}
 use Rattle.pnml_grammar.specs.Contents.{nodes_content}
 use Rattle.pnml_grammar.specs.Counts.{◌plus◌, IsWithin}
-use Rattle.pnml_grammar.specs.Documents.{depth_limit, is_complete}
+use Rattle.pnml_grammar.specs.Documents.{is_complete}
 use Rattle.pnml_grammar.specs.LegalTexts.{HasLegalTexts}
 use Rattle.pnml_grammar.specs.OpenElements.{Opened, Spot, opened_tokens, frame_of, state_of}
 use Rattle.pnml_grammar.proofs.EachLaws.{each_append}
@@ -30,7 +31,7 @@ none_around [] outside e = refl
 none_around (inner ∷ outer) outside e = absurd (true≢false (sym e ∙ inside_element (frame_of outer outside).context (element_named inner.name)))
 
 missing_shallow : (spot : Spot) (inner : Opened) → IsSound (spot_in spot inner)
-    → length (inner ∷ spot.opened) + node_height (missing (state_of (spot_in spot inner)).top.context) ≤ depth_limit
+    → length (inner ∷ spot.opened) + node_height (missing (state_of (spot_in spot inner)).top.context) ≤ MAX_OPEN_ELEMENTS
 missing_shallow spot inner sound =
     let around = (state_of spot).top.context in
     let low_enough = sound.hold.2.shallow in

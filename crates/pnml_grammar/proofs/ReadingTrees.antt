@@ -3,6 +3,7 @@
 -- have room.
 use Rattle.std.proofs.Common.{◌≡◌, ℕ, suc, ◌+◌, ◌≤◌, refl, sym, ap, subst, ◌∙◌, List, [], ◌∷◌, ◌++◌, append_assoc, length, Option, Some, None, true, false, IsTrue, arith, bytes_eq, true≢false}
 use Rattle.std.proofs.lemmas.Slice.Eq.{bytes_eq-Decides}
+use Rattle.net_values.specs.declared.limits.TheConstants.{MAX_OPEN_ELEMENTS}
 use Rattle.pnml_grammar.specs.declared.element.ElementKind.{ElementKind}
 use Rattle.pnml_grammar.specs.declared.element.ElementKind.TheVariants as elements
 use Rattle.pnml_grammar.specs.declared.element.Context.{Context}
@@ -14,7 +15,7 @@ use Rattle.pnml_grammar.specs.Elements.{element_named, context_in, context_if_an
 use Rattle.pnml_grammar.specs.Trees.{Node, element, empty_element, comment, instruction, cdata, characters, Nodes, none, ◌and◌, node_tokens, nodes_tokens, node_height, nodes_height}
 use Rattle.pnml_grammar.specs.Contents.{Content, nothing, ◌then◌, gives, node_content, nodes_content, cdata_content, characters_content}
 use Rattle.pnml_grammar.specs.Counts.{Counts, no_counts, ◌plus◌, tag_counts, node_counts, nodes_counts, IsWithin}
-use Rattle.pnml_grammar.specs.Documents.{depth_limit, HasFew, is_complete, IsChild, EachChild}
+use Rattle.pnml_grammar.specs.Documents.{HasFew, is_complete, IsChild, EachChild}
 use Rattle.pnml_grammar.specs.OpenElements.{State}
 use Rattle.pnml_grammar.specs.Machine.{run, receive, put, open_element, close_element}
 use Rattle.pnml_grammar.proofs.ContentLaws.{then_nothing, then_assoc, plus_nothing, plus_assoc, within_front, few_front}
@@ -76,7 +77,7 @@ closed_more state name attributes content counts = λ i. record {
 
 -- there is room for elements of this height, which give this and count so many
 pub record HasRoom (state : State) (height : ℕ) (content : Content) (counts : Counts) : Type 0 where
-  pub shallow : length state.under + height ≤ depth_limit
+  pub shallow : length state.under + height ≤ MAX_OPEN_ELEMENTS
   pub few : HasFew (state.top.content then content)
   pub counted : IsWithin (state.counts plus counts)
 

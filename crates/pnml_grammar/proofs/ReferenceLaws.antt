@@ -1,7 +1,7 @@
 -- References: the character that is read from what is between `&` and `;` is the one that it represents.
 -- A number that is read digit by digit never falls, so one that passes the characters stays above them.
-use Rattle.std.proofs.Common.{◌≡◌, ℕ, ◌+◌, ◌*◌, ◌<◌, ◌≤◌, true, false, cond, List, [], ◌∷◌, Option, Some, refl, sym, ap, subst, ◌∙◌, arith, inl, inr}
-use Rattle.std.specs.Prelude.{◌==◌, ◌&&◌, nat_le, nat_lt, codes, bytes_eq}
+use Rattle.std.proofs.Common.{◌≡◌, ℕ, Bool, ◌+◌, ◌*◌, ◌<◌, ◌≤◌, true, false, cond, List, [], ◌∷◌, Option, Some, refl, sym, ap, subst, ◌∙◌, arith, inl, inr}
+use Rattle.std.specs.Prelude.{◌↔◌, IsTrue, ◌==◌, ◌&&◌, nat_le, nat_lt, codes, bytes_eq}
 use Rattle.std.specs.Char.{digit_value}
 use Rattle.std.specs.Str.Parse.{AllDigits, digits_value_after}
 use Rattle.std.proofs.lemmas.Bool.{ltb-true, leb-true, lt-ltb, le-leb, and_parts, and_from, or_cases, eqb-true, cases_Bool}
@@ -46,6 +46,10 @@ legal_found c e =
                 ]
           ]
     ]
+
+-- the test tells whether the character is legal
+pub legal_decided : (c : ℕ) (b : Bool) → b ≡ is_legal_character c → IsTrue b ↔ IsLegalCharacter c
+legal_decided c b e = (λ holds. legal_found c (sym e ∙ holds), λ legal. e ∙ legal_is c legal)
 
 legal_bound : (c : ℕ) → IsLegalCharacter c → c ≤ 0x10_FFFF
 legal_bound c h = omega arith

@@ -2,6 +2,7 @@
 -- The tests are gone through row by row, and the elements and contexts case by case.
 use Rattle.std.proofs.Common.{◌≡◌, ℕ, ◌+◌, ◌≤◌, ◌<◌, inl, inr, refl, sym, ap, ◌∙◌, List, [], ◌∷◌, length, Option, Some, None, Bool, true, false, not, ◌&&◌, ◌||◌, IsTrue, nat_le, is_some, is_none, option_to_list, arith, bytes_eq, true≢false}
 use Rattle.std.proofs.lemmas.Bool.{and_parts, and_from, and_right, or_cases, or_parts, or_from, or_left, not-false, leb-false, lt-leb, ltb-false, le-ltb}
+use Rattle.net_values.specs.declared.limits.TheConstants.{MAX_ARCS, MAX_NAME_BYTES, MAX_OPEN_ELEMENTS, MAX_PAGES, MAX_PLACES, MAX_REFERENCES, MAX_TRANSITIONS}
 use Rattle.pnml_grammar.specs.declared.element.ElementKind.{ElementKind}
 use Rattle.pnml_grammar.specs.declared.element.ElementKind.TheVariants as elements
 use Rattle.pnml_grammar.specs.declared.element.Context.{Context}
@@ -15,7 +16,7 @@ use Rattle.pnml_grammar.specs.Characters.{is_space}
 use Rattle.pnml_grammar.specs.Runs.{beyond}
 use Rattle.pnml_grammar.specs.Contents.{Content, nothing, ◌then◌, characters_content, cdata_content}
 use Rattle.pnml_grammar.specs.Counts.{Counts, ◌plus◌, counts_of_kind, counts_if_any, tag_counts, IsWithin}
-use Rattle.pnml_grammar.specs.Documents.{depth_limit, name_limit, HasFew, is_complete, may_have_characters, may_have_cdata}
+use Rattle.pnml_grammar.specs.Documents.{HasFew, is_complete, may_have_characters, may_have_cdata}
 use Rattle.pnml_grammar.specs.OpenElements.{Frame, State}
 use Rattle.pnml_grammar.specs.Reasons.{first_row, has_some, is_pnml, is_number_text, is_full, count_rows, tag_rows, open_rows, is_other_end, end_rows_in, characters_rows, cdata_rows, name_rows, number_rows}
 use Rattle.pnml_grammar.proofs.FirstLaws.{has_some_is, has_none, none_long, few_same, second_of, second_in}
@@ -43,21 +44,21 @@ pass_from (row ∷ rows) e = let both = first_from row.0 row.1 rows e in (both.0
 -- ---- counts
 
 count_none : (element : ElementKind) (counts : Counts) → IsWithin (counts plus counts_of_kind element) → Pass (count_rows counts element)
-count_none elements.Place counts within = ((lt-leb 2048 counts.places (omega (arith, within.places))), tt)
-count_none elements.Transition counts within = ((lt-leb 2048 counts.transitions (omega (arith, within.transitions))), tt)
-count_none elements.Arc counts within = ((lt-leb 65536 counts.arcs (omega (arith, within.arcs))), tt)
-count_none elements.ReferencePlace counts within = ((lt-leb 4096 counts.references (omega (arith, within.references))), tt)
-count_none elements.ReferenceTransition counts within = ((lt-leb 4096 counts.references (omega (arith, within.references))), tt)
-count_none elements.Page counts within = ((lt-leb 1024 counts.pages (omega (arith, within.pages))), tt)
+count_none elements.Place counts within = ((lt-leb MAX_PLACES counts.places (omega (arith, within.places))), tt)
+count_none elements.Transition counts within = ((lt-leb MAX_TRANSITIONS counts.transitions (omega (arith, within.transitions))), tt)
+count_none elements.Arc counts within = ((lt-leb MAX_ARCS counts.arcs (omega (arith, within.arcs))), tt)
+count_none elements.ReferencePlace counts within = ((lt-leb MAX_REFERENCES counts.references (omega (arith, within.references))), tt)
+count_none elements.ReferenceTransition counts within = ((lt-leb MAX_REFERENCES counts.references (omega (arith, within.references))), tt)
+count_none elements.Page counts within = ((lt-leb MAX_PAGES counts.pages (omega (arith, within.pages))), tt)
 count_none element counts within = tt
 
 count_passed : (element : ElementKind) (counts : Counts) → IsWithin counts → Pass (count_rows counts element) → IsWithin (counts plus counts_of_kind element)
-count_passed elements.Place counts within e = let less = leb-false 2048 counts.places e.0 in omega arith
-count_passed elements.Transition counts within e = let less = leb-false 2048 counts.transitions e.0 in omega arith
-count_passed elements.Arc counts within e = let less = leb-false 65536 counts.arcs e.0 in omega arith
-count_passed elements.ReferencePlace counts within e = let less = leb-false 4096 counts.references e.0 in omega arith
-count_passed elements.ReferenceTransition counts within e = let less = leb-false 4096 counts.references e.0 in omega arith
-count_passed elements.Page counts within e = let less = leb-false 1024 counts.pages e.0 in omega arith
+count_passed elements.Place counts within e = let less = leb-false MAX_PLACES counts.places e.0 in omega arith
+count_passed elements.Transition counts within e = let less = leb-false MAX_TRANSITIONS counts.transitions e.0 in omega arith
+count_passed elements.Arc counts within e = let less = leb-false MAX_ARCS counts.arcs e.0 in omega arith
+count_passed elements.ReferencePlace counts within e = let less = leb-false MAX_REFERENCES counts.references e.0 in omega arith
+count_passed elements.ReferenceTransition counts within e = let less = leb-false MAX_REFERENCES counts.references e.0 in omega arith
+count_passed elements.Page counts within e = let less = leb-false MAX_PAGES counts.pages e.0 in omega arith
 count_passed element counts within e = omega arith
 
 -- ---- empty tags
@@ -94,12 +95,12 @@ if_empty false test e h = absurd (true≢false (sym h))
 pub record MayOpen (state : State) (empty : Bool) (name : List ℕ) (attributes : List Attribute) : Type 0 where
   pub occurs : IsTrue (may_occur state.top.context name attributes)
   pub first : second_in state.top.context state.top.content (element_named name) ≡ false
-  pub room : length state.under < depth_limit
+  pub room : length state.under < MAX_OPEN_ELEMENTS
   pub counted : IsWithin (state.counts plus tag_counts state.top.context name)
   pub whole : empty ≡ true → IsTrue (is_complete (context_in state.top.context (element_named name)) nothing)
 
 tag_none : (state : State) (empty : Bool) (attributes : List Attribute) (element : Option ElementKind) → IsTrue (may_occur_as state.top.context element attributes)
-    → second_of state.top.context state.top.content element ≡ false → length state.under < depth_limit → IsWithin (state.counts plus counts_if_any element)
+    → second_of state.top.context state.top.content element ≡ false → length state.under < MAX_OPEN_ELEMENTS → IsWithin (state.counts plus counts_if_any element)
     → (empty ≡ true → IsTrue (is_complete (context_if_any state.top.context element) nothing)) → first_row (tag_rows state empty attributes element) ≡ None
 unfolding is_full
 tag_none state empty attributes None occurs first room counted whole = absurd (true≢false (sym occurs))
@@ -135,7 +136,7 @@ tag_none state empty attributes (Some element) occurs first room counted whole =
     )
 
 tag_passed : (state : State) (empty : Bool) (attributes : List Attribute) (element : Option ElementKind) → IsWithin state.counts → first_row (tag_rows state empty attributes element) ≡ None
-    → IsTrue (may_occur_as state.top.context element attributes) × (second_of state.top.context state.top.content element ≡ false) × (length state.under < depth_limit)
+    → IsTrue (may_occur_as state.top.context element attributes) × (second_of state.top.context state.top.content element ≡ false) × (length state.under < MAX_OPEN_ELEMENTS)
     × IsWithin (state.counts plus counts_if_any element) × (empty ≡ true → IsTrue (is_complete (context_if_any state.top.context element) nothing))
 unfolding is_full
 tag_passed state empty attributes None within e = absurd (true≢false (pass_from (tag_rows state empty attributes None) e).0)
@@ -164,7 +165,7 @@ state_in context own mine content under counts =
 open_none_in : (context : Context) (own : List ℕ) (mine : List Attribute) (content : Content) (under : List Frame) (counts : Counts) (empty : Bool) (name : List ℕ) (attributes : List Attribute)
     → MayOpen (state_in context own mine content under counts) empty name attributes → first_row (open_rows (state_in context own mine content under counts) empty name attributes) ≡ None
 unfolding is_full
-open_none_in contexts.Skipped own mine content under counts empty name attributes may = none_from ((nat_le depth_limit (length under), TooDeep) ∷ []) (lt-leb _ _ may.room, tt)
+open_none_in contexts.Skipped own mine content under counts empty name attributes may = none_from ((nat_le MAX_OPEN_ELEMENTS (length under), TooDeep) ∷ []) (lt-leb _ _ may.room, tt)
 open_none_in context own mine content under counts empty name attributes may =
     tag_none (state_in context own mine content under counts) empty attributes (element_named name) may.occurs may.first may.room may.counted may.whole
 
@@ -177,7 +178,7 @@ may_open_in : (context : Context) (own : List ℕ) (mine : List Attribute) (cont
     → MayOpen (state_in context own mine content under counts) empty name attributes
 unfolding is_full
 may_open_in contexts.Skipped own mine content under counts empty name attributes within e =
-    let room = pass_from ((nat_le depth_limit (length under), TooDeep) ∷ []) e in
+    let room = pass_from ((nat_le MAX_OPEN_ELEMENTS (length under), TooDeep) ∷ []) e in
     record { occurs = refl; first = refl; room = leb-false _ _ room.0; counted = omega arith; whole = λ is. refl }
 may_open_in context own mine content under counts empty name attributes within e =
     let all = tag_passed (state_in context own mine content under counts) empty attributes (element_named name) within e in
@@ -258,12 +259,12 @@ white_if_none context value other e =
     ]
 
 name_none : (content : Content) (value : List ℕ) → HaveFew content (record nothing { bytes = value }) → first_row (name_rows content value) ≡ None
-name_none content value few = none_from (name_rows content value) (le-ltb name_limit (length content.bytes + length value) few.bytes, tt)
+name_none content value few = none_from (name_rows content value) (le-ltb MAX_NAME_BYTES (length content.bytes + length value) few.bytes, tt)
 
 name_passed : (content : Content) (value : List ℕ) → HasFew content → first_row (name_rows content value) ≡ None → HasFew (content then record nothing { bytes = value })
 name_passed content value few e =
     let pass = pass_from (name_rows content value) e in
-    let short = ltb-false name_limit (length content.bytes + length value) pass.0 in
+    let short = ltb-false MAX_NAME_BYTES (length content.bytes + length value) pass.0 in
     few_from content (record nothing { bytes = value }) (omega arith)
 
 -- the first number of a text, and no other

@@ -3,6 +3,7 @@
 -- adds a child, opens an element or closes the innermost one, by the test that no reason occurs against it.
 use Rattle.std.proofs.Common.{◌≡◌, ℕ, suc, ◌+◌, ◌≤◌, refl, sym, ap, subst, ◌∙◌, List, [], ◌∷◌, ◌++◌, append_assoc, append-nil, length, Option, Some, None, Bool, true, false, IsTrue, is_none, arith, true≢false}
 use Rattle.std.proofs.lemmas.Slice.Eq.{bytes_eq-Decides}
+use Rattle.net_values.specs.declared.limits.TheConstants.{MAX_OPEN_ELEMENTS}
 use Rattle.pnml_grammar.specs.declared.element.Context.{Context}
 use Rattle.pnml_grammar.specs.declared.element.Context.TheVariants as contexts
 use Rattle.pnml_grammar.specs.declared.reason.Reason.{Reason}
@@ -13,7 +14,7 @@ use Rattle.pnml_grammar.specs.Elements.{element_named, context_in, may_occur}
 use Rattle.pnml_grammar.specs.Trees.{Node, element, empty_element, comment, instruction, cdata, characters, Nodes, none, node_tokens, nodes_tokens, node_height, nodes_height}
 use Rattle.pnml_grammar.specs.Contents.{nothing, ◌then◌, node_content, nodes_content, cdata_content, characters_content}
 use Rattle.pnml_grammar.specs.Counts.{no_counts, ◌plus◌, tag_counts, node_counts, nodes_counts, IsWithin}
-use Rattle.pnml_grammar.specs.Documents.{depth_limit, HasFew, is_complete, IsChild, EachChild, opening}
+use Rattle.pnml_grammar.specs.Documents.{HasFew, is_complete, IsChild, EachChild, opening}
 use Rattle.pnml_grammar.specs.OpenElements.{Frame, State, Opened, Spot, IsAfter, opened_tokens, frame_of, frames_around, state_of}
 use Rattle.pnml_grammar.specs.Machine.{run, step, next, reason_of, after_declaration, reached}
 use Rattle.pnml_grammar.proofs.RunLaws.{bind_some, chosen, some_is}
@@ -29,7 +30,7 @@ use Rattle.pnml_grammar.proofs.LastNodes.{with_last, last_content, last_each, la
 pub record Hold (context : Context) (depth : ℕ) (nodes : Nodes) : Type 0 where
   pub each : EachChild context nodes
   pub few : HasFew (nodes_content context nodes)
-  pub shallow : depth + nodes_height nodes ≤ depth_limit
+  pub shallow : depth + nodes_height nodes ≤ MAX_OPEN_ELEMENTS
 
 -- an element may occur in the one around it, after its children so far
 pub record Fits (around : Frame) (name : List ℕ) (attributes : List Attribute) : Type 0 where
@@ -58,15 +59,15 @@ frames_long (inner ∷ outer) outside = ap suc (frames_long outer outside)
 -- ---- one more child
 
 more_hold : (context : Context) (depth : ℕ) (nodes : Nodes) (node : Node) → Hold context depth nodes → IsChild context node
-    → HasFew (nodes_content context nodes then node_content context node) → depth + node_height node ≤ depth_limit → Hold context depth (with_last nodes node)
+    → HasFew (nodes_content context nodes then node_content context node) → depth + node_height node ≤ MAX_OPEN_ELEMENTS → Hold context depth (with_last nodes node)
 more_hold context depth nodes node hold child few shallow = record {
   each = last_each context nodes node hold.each child;
   few = subst HasFew (sym (last_content context nodes node)) few;
-  shallow = last_height depth depth_limit nodes node hold.shallow shallow;
+  shallow = last_height depth MAX_OPEN_ELEMENTS nodes node hold.shallow shallow;
 }
 
 with_hold : (opened : List Opened) (outside : Nodes) (node : Node) → AllHold opened outside → IsChild (frame_of opened outside).context node
-    → HasFew ((frame_of opened outside).content then node_content (frame_of opened outside).context node) → length opened + node_height node ≤ depth_limit
+    → HasFew ((frame_of opened outside).content then node_content (frame_of opened outside).context node) → length opened + node_height node ≤ MAX_OPEN_ELEMENTS
     → AllHold (opened_with opened node) (outside_with opened outside node)
 with_hold [] outside node hold child few shallow = more_hold contexts.Document 0 outside node hold child few shallow
 with_hold (inner ∷ outer) outside node hold child few shallow =
@@ -76,7 +77,7 @@ with_hold (inner ∷ outer) outside node hold child few shallow =
 pub record Takes (spot : Spot) (node : Node) : Type 0 where
   pub child : IsChild (state_of spot).top.context node
   pub few : HasFew ((state_of spot).top.content then node_content (state_of spot).top.context node)
-  pub shallow : length spot.opened + node_height node ≤ depth_limit
+  pub shallow : length spot.opened + node_height node ≤ MAX_OPEN_ELEMENTS
   pub counted : IsWithin ((state_of spot).counts plus node_counts (state_of spot).top.context node)
 
 pub with_sound : (spot : Spot) (node : Node) → IsSound spot → Takes spot node → IsSound (spot_with spot node)
@@ -106,7 +107,7 @@ child_after spot token node one sound takes leads = record {
 }
 
 -- a token that is no element
-holds_shallow : (opened : List Opened) (outside : Nodes) → AllHold opened outside → length opened ≤ depth_limit
+holds_shallow : (opened : List Opened) (outside : Nodes) → AllHold opened outside → length opened ≤ MAX_OPEN_ELEMENTS
 holds_shallow [] outside hold = omega arith
 holds_shallow (inner ∷ outer) outside hold = omega (arith, hold.2.shallow)
 

@@ -1,7 +1,7 @@
 -- UTF-8 and legal characters. A text may be cut at an ASCII byte, so the parts of a spelling between its
 -- marks are text.
 use Rattle.std.proofs.Common.{◌≡◌, ℕ, ◌<◌, true, List, [], ◌∷◌, ◌++◌, Some, refl, sym, ap, subst, ◌∙◌, arith, length, get_or, length-append}
-use Rattle.std.specs.Prelude.{chars, IsUtf8}
+use Rattle.std.specs.Prelude.{Bool, chars, IsTrue, IsUtf8, ◌↔◌}
 use Rattle.std.specs.List.{AllByRecursion, list_all}
 use Rattle.std.specs.Str.{is_utf8, all_scalars}
 use Rattle.std.proofs.Math.Utf8.{scalar}
@@ -39,6 +39,13 @@ unfolding is_legal
 is_legal_found bytes e =
     let p = and_parts (is_utf8 bytes) (list_all is_legal_character (chars bytes)) e in
     (chars bytes, each_found IsLegalCharacter is_legal_character legal_found (chars bytes) p.1, encodes-chars bytes (IsUtf8-from_is_utf8 bytes p.0))
+
+-- the test tells whether a text is legal
+pub legal_text_decided : (bytes : List ℕ) (b : Bool) → IsUtf8 bytes → b ≡ list_all is_legal_character (chars bytes) → IsTrue b ↔ IsLegalText bytes
+unfolding is_legal
+legal_text_decided bytes b text e =
+    let same : is_legal bytes ≡ b = rw (is_utf8-from_IsUtf8 bytes text) (sym e) in
+    (λ holds. is_legal_found bytes (same ∙ holds), λ legal. sym same ∙ is_legal_is bytes legal)
 
 pub text_again : (bytes : List ℕ) → IsUtf8 bytes → text_of bytes ≡ Some bytes
 unfolding text_of

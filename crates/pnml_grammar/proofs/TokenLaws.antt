@@ -4,11 +4,12 @@ use Rattle.std.proofs.Common.{◌≡◌, ℕ, ◌-◌, ◌≤◌, true, false, c
 use Rattle.std.specs.Prelude.{◌==◌, nat_le, codes, is_none, IsUtf8}
 use Rattle.std.proofs.lemmas.Bool.{cases_Bool, eqb-true, not-true, and_parts, and_from, leb-true, le-leb, true≢false}
 use Rattle.std.proofs.lemmas.List.{take_at}
+use Rattle.net_values.specs.declared.limits.TheConstants.{MAX_TOKEN_BYTES}
 use Rattle.net_values.specs.Characters.{IsLegalText}
 use Rattle.pnml_grammar.specs.declared.token.Token.{Token}
 use Rattle.pnml_grammar.specs.declared.token.Token.TheVariants.{Declaration, Comment, Instruction, Cdata, Start, Empty, End, Characters}
 use Rattle.pnml_grammar.specs.Characters.{Each}
-use Rattle.pnml_grammar.specs.Tokens.{IsSpelling, IsCharacters, is_text_byte, IsTextEnd, MayFollow, Occurs, HasOneToken, spelling_limit}
+use Rattle.pnml_grammar.specs.Tokens.{IsSpelling, IsCharacters, is_text_byte, IsTextEnd, MayFollow, Occurs, HasOneToken}
 use Rattle.pnml_grammar.specs.Runs.{passed, beyond, past, past_text, until}
 use Rattle.pnml_grammar.specs.Resolving.{value_of}
 use Rattle.pnml_grammar.specs.Reading.{comment_at, cdata_at, instruction_at, end_tag_at, characters_at, after_or, markup_at, shape_at, is_legal, before_rest, is_spelling, token_from}
@@ -126,9 +127,9 @@ shape_found (b ∷ bs) token rest e =
 before_rest_is : (spelling rest : List ℕ) → before_rest (spelling ++ rest) rest ≡ spelling
 before_rest_is spelling rest = take_at spelling rest (length (spelling ++ rest) - length rest) (omega (arith, length-append spelling rest))
 
-spelling_is : (spelling : List ℕ) → length spelling ≤ spelling_limit → IsLegalText spelling → is_spelling spelling ≡ true
+spelling_is : (spelling : List ℕ) → length spelling ≤ MAX_TOKEN_BYTES → IsLegalText spelling → is_spelling spelling ≡ true
 unfolding is_spelling
-spelling_is spelling short legal = and_from (nat_le (length spelling) spelling_limit) (is_legal spelling) (le-leb _ _ short) (is_legal_is spelling legal)
+spelling_is spelling short legal = and_from (nat_le (length spelling) MAX_TOKEN_BYTES) (is_legal spelling) (le-leb _ _ short) (is_legal_is spelling legal)
 
 token_made : (bytes : List ℕ) (token : Token) (spelling rest : List ℕ) → shape_at bytes ≡ Some (token, rest) → before_rest bytes rest ≡ spelling → is_spelling spelling ≡ true → token_from bytes ≡ Some (token, rest)
 unfolding token_from
@@ -152,7 +153,7 @@ token_found bytes token rest e =
     let p = some_pair_is a.0.0 token a.0.1 rest g.1 in
     let f = shape_found bytes a.0.0 a.0.1 a.1 in
     let cut : before_rest bytes a.0.1 ≡ f.spelling = ap (λ (t : List ℕ). before_rest t a.0.1) f.parts ∙ before_rest_is f.spelling a.0.1 in
-    let tests = and_parts (nat_le (length f.spelling) spelling_limit) (is_legal f.spelling) (sym (ap is_spelling cut) ∙ g.0) in
+    let tests = and_parts (nat_le (length f.spelling) MAX_TOKEN_BYTES) (is_legal f.spelling) (sym (ap is_spelling cut) ∙ g.0) in
     let here : Occurs bytes a.0.0 f.spelling a.0.1 = record {
       parts = f.parts;
       spells = f.spells;

@@ -5,6 +5,7 @@ use Rattle.std.specs.Prelude.{◌==◌, unwrap_or}
 use Rattle.std.specs.List.{AllByRecursion}
 use Rattle.std.proofs.lemmas.Bool.{cases_Bool}
 use Rattle.std.proofs.lemmas.List.{append-nil}
+use Rattle.net_values.specs.declared.limits.TheConstants.{MAX_OPEN_ELEMENTS}
 use Rattle.net_values.specs.declared.document.NetTree.{NetTree}
 use Rattle.net_values.specs.declared.document.Item.{Item}
 use Rattle.net_values.specs.declared.document.Item.TheVariants.{Page, PageEnd}
@@ -22,7 +23,7 @@ use Rattle.pnml_grammar.proofs.ValuedTrees.{IsKept, IsRead, IsRightTag}
 
 -- the items add at most h open elements
 abbrev AreLow : ℕ → List Item → Type 0
-AreLow h items = (opened : ℕ) (more : List Item) → opened + h ≤ 128 → IsShallow opened more → IsShallow opened (items ++ more)
+AreLow h items = (opened : ℕ) (more : List Item) → opened + h ≤ MAX_OPEN_ELEMENTS → IsShallow opened more → IsShallow opened (items ++ more)
 
 -- the elements around a net, that of it and those above it, up to the context
 abbrev above_net : Context → ℕ
@@ -30,7 +31,7 @@ above_net contexts.Document = 2
 above_net context = 1
 
 abbrev pub IsLowNet : Context → ℕ → NetTree → Type 0
-IsLowNet context h net = (opened : ℕ) → opened + h ≤ 128 + above_net context → IsShallow opened net.items
+IsLowNet context h net = (opened : ℕ) → opened + h ≤ MAX_OPEN_ELEMENTS + above_net context → IsShallow opened net.items
 
 abbrev number_height : Option ℕ → ℕ
 number_height None = 0

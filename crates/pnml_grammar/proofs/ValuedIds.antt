@@ -8,6 +8,7 @@ use Rattle.std.proofs.lemmas.Bool.{cases_Bool, and_parts, leb-true, ltb-true, lt
 use Rattle.std.proofs.lemmas.List.Folds.{list_all-append}
 use Rattle.std.proofs.lemmas.Slice.Eq.{bytes_eq-Decides}
 use Rattle.std.proofs.lemmas.Str.{encode_ascii}
+use Rattle.net_values.specs.declared.limits.TheConstants.{MAX_ID_BYTES}
 use Rattle.net_values.specs.Characters.{IsLegalCharacter, IsLegalText, IsIdCharacter, IsId}
 use Rattle.pnml_grammar.specs.declared.element.ElementKind.{ElementKind}
 use Rattle.pnml_grammar.specs.declared.element.AttributeKind.{AttributeKind}
@@ -43,12 +44,12 @@ id_characters (c ∷ cs) legal e =
 id_is : (value : List ℕ) → IsLegalText value → is_id value ≡ true → IsId value
 unfolding is_id
 id_is value legal e =
-    let p = and_parts (nat_le 1 (length value) && nat_le (length value) 4096) (list_all is_id_byte value) e in
-    let q = and_parts (nat_le 1 (length value)) (nat_le (length value) 4096) p.0 in
+    let p = and_parts (nat_le 1 (length value) && nat_le (length value) MAX_ID_BYTES) (list_all is_id_byte value) e in
+    let q = and_parts (nat_le 1 (length value)) (nat_le (length value) MAX_ID_BYTES) p.0 in
     record {
       characters = (legal.0, id_characters legal.0 legal.1 (ap (list_all is_id_byte) legal.2 ∙ p.1), legal.2);
       nonempty = leb-true 1 (length value) q.0;
-      short = leb-true (length value) 4096 q.1;
+      short = leb-true (length value) MAX_ID_BYTES q.1;
     }
 
 -- ---- the attributes of a tag

@@ -2,13 +2,14 @@
 -- higher than the tree, and its items are no more than the tree's elements.
 use Rattle.std.proofs.Common.{◌≡◌, ◌≤◌, List, [], ◌∷◌, subst, arith}
 use Rattle.std.specs.List.{AllByRecursion}
+use Rattle.net_values.specs.declared.limits.TheConstants.{MAX_OPEN_ELEMENTS}
 use Rattle.net_values.specs.declared.document.NetTree.{NetTree}
 use Rattle.net_values.specs.declared.document.Item.{Item}
 use Rattle.pnml_grammar.specs.declared.element.Context.TheVariants as contexts
 use Rattle.pnml_grammar.specs.Trees.{Nodes, nodes_tokens, nodes_height}
 use Rattle.pnml_grammar.specs.Contents.{nodes_content}
 use Rattle.pnml_grammar.specs.Counts.{Counts, nodes_counts, IsWithin}
-use Rattle.pnml_grammar.specs.Documents.{EachChild, depth_limit}
+use Rattle.pnml_grammar.specs.Documents.{EachChild}
 use Rattle.pnml_grammar.specs.Valued.{IsWithinLimits, Valued}
 use Rattle.pnml_grammar.specs.LegalTexts.{HasLegalTexts}
 use Rattle.pnml_grammar.proofs.ValuedTrees.{nodes_are}
@@ -24,7 +25,7 @@ the_net : (P : NetTree → Type 0) (nets : List NetTree) (net : NetTree) → net
 the_net P nets net e each = (subst (AllByRecursion P) e each).0
 
 -- the document that a tree gives is valued
-pub valued_of : (net : NetTree) (nodes : Nodes) → EachChild contexts.Document nodes → nodes_height nodes ≤ depth_limit → IsWithin (nodes_counts contexts.Document nodes)
+pub valued_of : (net : NetTree) (nodes : Nodes) → EachChild contexts.Document nodes → nodes_height nodes ≤ MAX_OPEN_ELEMENTS → IsWithin (nodes_counts contexts.Document nodes)
     → AllByRecursion HasLegalTexts (nodes_tokens nodes) → (nodes_content contexts.Document nodes).nets ≡ net ∷ [] → Valued record { net = net }
 valued_of net nodes each low within legal one =
     let counts = nodes_counts contexts.Document nodes in

@@ -7,6 +7,7 @@ use Rattle.std.specs.Str.{is_utf8, all_scalars}
 use Rattle.std.proofs.Math.Utf8.{scalar}
 use Rattle.std.proofs.lemmas.Bool.{cases_Bool, true≢false, and_parts, and_from, leb-true, ltb-true, le-leb, lt-ltb, eqb-false, ne_eqb, not-true}
 use Rattle.std.proofs.lemmas.Str.{chars-encodes, encodes-chars, IsUtf8-from_is_utf8, is_utf8-from_IsUtf8}
+use Rattle.net_values.specs.declared.limits.TheConstants.{MAX_ID_BYTES, MAX_NAME_BYTES}
 use Rattle.net_values.specs.declared.document.Document.{Document}
 use Rattle.net_values.specs.declared.document.RefNode.{RefNode}
 use Rattle.net_values.specs.declared.document.Item.{Item}
@@ -22,13 +23,13 @@ use Rattle.pnml_grammar.proofs.ValuedWalks.{IsFit, AreWithin, Walks, walks_found
 
 -- ---- what the code finds of texts
 
-pub valued_id_is : (bytes : List ℕ) (b : Bool) → IsUtf8 bytes → 1 ≤ length bytes → length bytes ≤ 4096 → b ≡ list_all is_id_character (chars bytes) → b ≡ is_valued_id bytes
+pub valued_id_is : (bytes : List ℕ) (b : Bool) → IsUtf8 bytes → 1 ≤ length bytes → length bytes ≤ MAX_ID_BYTES → b ≡ list_all is_id_character (chars bytes) → b ≡ is_valued_id bytes
 unfolding is_valued_id
-valued_id_is bytes b text some few e = rw (is_utf8-from_IsUtf8 bytes text, le-leb 1 (length bytes) some, le-leb (length bytes) 4096 few) e
+valued_id_is bytes b text some few e = rw (is_utf8-from_IsUtf8 bytes text, le-leb 1 (length bytes) some, le-leb (length bytes) MAX_ID_BYTES few) e
 
-pub valued_name_is : (bytes : List ℕ) (b : Bool) → IsUtf8 bytes → length bytes ≤ 65536 → b ≡ list_all is_legal_character (chars bytes) → b ≡ is_valued_name bytes
+pub valued_name_is : (bytes : List ℕ) (b : Bool) → IsUtf8 bytes → length bytes ≤ MAX_NAME_BYTES → b ≡ list_all is_legal_character (chars bytes) → b ≡ is_valued_name bytes
 unfolding is_valued_name
-valued_name_is bytes b text few e = rw (is_utf8-from_IsUtf8 bytes text, le-leb (length bytes) 65536 few) e
+valued_name_is bytes b text few e = rw (is_utf8-from_IsUtf8 bytes text, le-leb (length bytes) MAX_NAME_BYTES few) e
 
 -- ---- values
 
@@ -61,27 +62,27 @@ id_character_is c h =
 id_found : (bytes : List ℕ) → is_valued_id bytes ≡ true → IsId bytes
 unfolding is_valued_id
 id_found bytes e =
-    let p = and_parts (nat_le 1 (length bytes) && nat_le (length bytes) 4096) (is_text_of is_id_character bytes) e in
-    let q = and_parts (nat_le 1 (length bytes)) (nat_le (length bytes) 4096) p.0 in
-    record { characters = text_found IsIdCharacter is_id_character bytes id_character_found p.1; nonempty = leb-true 1 (length bytes) q.0; short = leb-true (length bytes) 4096 q.1 }
+    let p = and_parts (nat_le 1 (length bytes) && nat_le (length bytes) MAX_ID_BYTES) (is_text_of is_id_character bytes) e in
+    let q = and_parts (nat_le 1 (length bytes)) (nat_le (length bytes) MAX_ID_BYTES) p.0 in
+    record { characters = text_found IsIdCharacter is_id_character bytes id_character_found p.1; nonempty = leb-true 1 (length bytes) q.0; short = leb-true (length bytes) MAX_ID_BYTES q.1 }
 
 id_is : (bytes : List ℕ) → IsId bytes → is_valued_id bytes ≡ true
 unfolding is_valued_id
 id_is bytes h =
-    and_from (nat_le 1 (length bytes) && nat_le (length bytes) 4096) (is_text_of is_id_character bytes)
-    (and_from (nat_le 1 (length bytes)) (nat_le (length bytes) 4096) (le-leb 1 (length bytes) h.nonempty) (le-leb (length bytes) 4096 h.short))
+    and_from (nat_le 1 (length bytes) && nat_le (length bytes) MAX_ID_BYTES) (is_text_of is_id_character bytes)
+    (and_from (nat_le 1 (length bytes)) (nat_le (length bytes) MAX_ID_BYTES) (le-leb 1 (length bytes) h.nonempty) (le-leb (length bytes) MAX_ID_BYTES h.short))
     (text_is IsIdCharacter is_id_character bytes id_character_is (λ c is. legal_scalar c is.0) h.characters)
 
 name_found : (bytes : List ℕ) → is_valued_name bytes ≡ true → IsNameValue bytes
 unfolding is_valued_name
 name_found bytes e =
-    let p = and_parts (nat_le (length bytes) 65536) (is_text_of is_legal_character bytes) e in
-    record { characters = text_found IsLegalCharacter is_legal_character bytes legal_found p.1; short = leb-true (length bytes) 65536 p.0 }
+    let p = and_parts (nat_le (length bytes) MAX_NAME_BYTES) (is_text_of is_legal_character bytes) e in
+    record { characters = text_found IsLegalCharacter is_legal_character bytes legal_found p.1; short = leb-true (length bytes) MAX_NAME_BYTES p.0 }
 
 name_is : (bytes : List ℕ) → IsNameValue bytes → is_valued_name bytes ≡ true
 unfolding is_valued_name
 name_is bytes h =
-    and_from (nat_le (length bytes) 65536) (is_text_of is_legal_character bytes) (le-leb (length bytes) 65536 h.short)
+    and_from (nat_le (length bytes) MAX_NAME_BYTES) (is_text_of is_legal_character bytes) (le-leb (length bytes) MAX_NAME_BYTES h.short)
     (text_is IsLegalCharacter is_legal_character bytes legal_is legal_scalar h.characters)
 
 name_if_any_found : (name : Option (List ℕ)) → is_valued_name_if_any name ≡ true → IsNameIfAny name

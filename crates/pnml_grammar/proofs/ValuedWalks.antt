@@ -4,6 +4,7 @@ use Rattle.std.proofs.Common.{◌≡◌, ℕ, ◌+◌, ◌-◌, ◌≤◌, Bool,
 use Rattle.std.specs.Prelude.{◌==◌, ◌&&◌, nat_le, count_by}
 use Rattle.std.specs.List.{AllByRecursion}
 use Rattle.std.proofs.lemmas.Bool.{cases_Bool, and_parts, leb-true, ltb-true, le-leb, lt-ltb, eqb-true, eq-eqb}
+use Rattle.net_values.specs.declared.limits.TheConstants.{MAX_ARCS, MAX_OPEN_ELEMENTS, MAX_PAGES, MAX_PLACES, MAX_REFERENCES, MAX_TRANSITIONS}
 use Rattle.net_values.specs.declared.document.Item.{Item}
 use Rattle.net_values.specs.declared.document.Item.TheVariants.{Page, PageEnd, Place, Transition, RefPlace, RefTransition, Arc}
 use Rattle.net_values.specs.Items.{is_page, is_place, is_transition, is_arc, is_reference}
@@ -16,20 +17,20 @@ use Rattle.pnml_grammar.proofs.EachLaws.{count_by_append}
 
 -- what was passed is within the limits
 pub record IsFit (walk : Walk) : Type 0 where
-  pub opened : walk.opened ≤ 126
-  pub places : walk.places ≤ 2048
-  pub transitions : walk.transitions ≤ 2048
-  pub arcs : walk.arcs ≤ 65536
-  pub references : walk.references ≤ 4096
-  pub pages : walk.pages ≤ 1024
+  pub opened : walk.opened ≤ MAX_OPEN_ELEMENTS - 2
+  pub places : walk.places ≤ MAX_PLACES
+  pub transitions : walk.transitions ≤ MAX_TRANSITIONS
+  pub arcs : walk.arcs ≤ MAX_ARCS
+  pub references : walk.references ≤ MAX_REFERENCES
+  pub pages : walk.pages ≤ MAX_PAGES
 
 -- and so is what was passed with these items
 pub record AreWithin (walk : Walk) (items : List Item) : Type 0 where
-  pub places : walk.places + count_by is_place items ≤ 2048
-  pub transitions : walk.transitions + count_by is_transition items ≤ 2048
-  pub arcs : walk.arcs + count_by is_arc items ≤ 65536
-  pub references : walk.references + count_by is_reference items ≤ 4096
-  pub pages : walk.pages + count_by is_page items ≤ 1024
+  pub places : walk.places + count_by is_place items ≤ MAX_PLACES
+  pub transitions : walk.transitions + count_by is_transition items ≤ MAX_TRANSITIONS
+  pub arcs : walk.arcs + count_by is_arc items ≤ MAX_ARCS
+  pub references : walk.references + count_by is_reference items ≤ MAX_REFERENCES
+  pub pages : walk.pages + count_by is_page items ≤ MAX_PAGES
 
 -- what was passed and what is left are together as many after an item as before it
 record KeepsSums (walk : Walk) (item : Item) (items : List Item) : Type 0 where
@@ -99,11 +100,11 @@ height_low (RefPlace node) = omega (arith, name_low node.name)
 height_low (RefTransition node) = omega (arith, name_low node.name)
 height_low (Arc arc) = label_low arc.weight 1 (name_height arc.name) (name_low arc.name)
 
-depth_is : (opened height : ℕ) → height ≤ 3 → nat_le opened (126 - height) ≡ true → opened + 2 + height ≤ 128
-depth_is opened height low e = omega (arith, leb-true opened (126 - height) e)
+depth_is : (opened height : ℕ) → height ≤ 3 → nat_le opened (MAX_OPEN_ELEMENTS - 2 - height) ≡ true → opened + 2 + height ≤ MAX_OPEN_ELEMENTS
+depth_is opened height low e = omega (arith, leb-true opened (MAX_OPEN_ELEMENTS - 2 - height) e)
 
-depth_tested : (opened height : ℕ) → opened + 2 + height ≤ 128 → nat_le opened (126 - height) ≡ true
-depth_tested opened height le = le-leb opened (126 - height) (omega arith)
+depth_tested : (opened height : ℕ) → opened + 2 + height ≤ MAX_OPEN_ELEMENTS → nat_le opened (MAX_OPEN_ELEMENTS - 2 - height) ≡ true
+depth_tested opened height le = le-leb opened (MAX_OPEN_ELEMENTS - 2 - height) (omega arith)
 
 shallow_before : (walk : Walk) (item : Item) (items : List Item) → is_low walk item ≡ true → may_count walk item ≡ true → IsShallow ((beyond walk item).opened + 2) items
     → IsShallow (walk.opened + 2) (item ∷ items)
@@ -129,27 +130,27 @@ shallow_after walk item items e shallow = shallow.1
 -- ---- one item
 
 low_is : (walk : Walk) (item : Item) (items : List Item) → IsFit walk → IsShallow (walk.opened + 2) (item ∷ items) → is_low walk item ≡ true
-low_is walk PageEnd items fit shallow = le-leb walk.opened 126 fit.opened
+low_is walk PageEnd items fit shallow = le-leb walk.opened (MAX_OPEN_ELEMENTS - 2) fit.opened
 low_is walk item items fit shallow = depth_tested walk.opened (item_height item) shallow.0
 
 count_is : (walk : Walk) (item : Item) (items : List Item) → AreWithin walk (item ∷ items) → PagesMatch walk.opened (item ∷ items) → may_count walk item ≡ true
-count_is walk (Page page) items within match = lt-ltb walk.pages 1024 (omega (arith, within.pages, (counts_first (Page page) items).pages))
+count_is walk (Page page) items within match = lt-ltb walk.pages MAX_PAGES (omega (arith, within.pages, (counts_first (Page page) items).pages))
 count_is walk PageEnd items within match = lt-ltb 0 walk.opened match.0
-count_is walk (Place place) items within match = lt-ltb walk.places 2048 (omega (arith, within.places, (counts_first (Place place) items).places))
+count_is walk (Place place) items within match = lt-ltb walk.places MAX_PLACES (omega (arith, within.places, (counts_first (Place place) items).places))
 count_is walk (Transition transition) items within match =
-    lt-ltb walk.transitions 2048 (omega (arith, within.transitions, (counts_first (Transition transition) items).transitions))
-count_is walk (RefPlace node) items within match = lt-ltb walk.references 4096 (omega (arith, within.references, (counts_first (RefPlace node) items).references))
-count_is walk (RefTransition node) items within match = lt-ltb walk.references 4096 (omega (arith, within.references, (counts_first (RefTransition node) items).references))
-count_is walk (Arc arc) items within match = lt-ltb walk.arcs 65536 (omega (arith, within.arcs, (counts_first (Arc arc) items).arcs))
+    lt-ltb walk.transitions MAX_TRANSITIONS (omega (arith, within.transitions, (counts_first (Transition transition) items).transitions))
+count_is walk (RefPlace node) items within match = lt-ltb walk.references MAX_REFERENCES (omega (arith, within.references, (counts_first (RefPlace node) items).references))
+count_is walk (RefTransition node) items within match = lt-ltb walk.references MAX_REFERENCES (omega (arith, within.references, (counts_first (RefTransition node) items).references))
+count_is walk (Arc arc) items within match = lt-ltb walk.arcs MAX_ARCS (omega (arith, within.arcs, (counts_first (Arc arc) items).arcs))
 
 fit_after : (walk : Walk) (item : Item) → IsFit walk → is_low walk item ≡ true → may_count walk item ≡ true → IsFit (beyond walk item)
-fit_after walk (Page page) fit low e = omega (arith, fit, ltb-true walk.pages 1024 e, leb-true walk.opened (126 - item_height (Page page)) low)
+fit_after walk (Page page) fit low e = omega (arith, fit, ltb-true walk.pages MAX_PAGES e, leb-true walk.opened (MAX_OPEN_ELEMENTS - 2 - item_height (Page page)) low)
 fit_after walk PageEnd fit low e = omega (arith, fit)
-fit_after walk (Place place) fit low e = omega (arith, fit, ltb-true walk.places 2048 e)
-fit_after walk (Transition transition) fit low e = omega (arith, fit, ltb-true walk.transitions 2048 e)
-fit_after walk (RefPlace node) fit low e = omega (arith, fit, ltb-true walk.references 4096 e)
-fit_after walk (RefTransition node) fit low e = omega (arith, fit, ltb-true walk.references 4096 e)
-fit_after walk (Arc arc) fit low e = omega (arith, fit, ltb-true walk.arcs 65536 e)
+fit_after walk (Place place) fit low e = omega (arith, fit, ltb-true walk.places MAX_PLACES e)
+fit_after walk (Transition transition) fit low e = omega (arith, fit, ltb-true walk.transitions MAX_TRANSITIONS e)
+fit_after walk (RefPlace node) fit low e = omega (arith, fit, ltb-true walk.references MAX_REFERENCES e)
+fit_after walk (RefTransition node) fit low e = omega (arith, fit, ltb-true walk.references MAX_REFERENCES e)
+fit_after walk (Arc arc) fit low e = omega (arith, fit, ltb-true walk.arcs MAX_ARCS e)
 
 -- ---- all items
 

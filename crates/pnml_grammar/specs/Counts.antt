@@ -1,5 +1,6 @@
 -- How many elements of the counted kinds occur outside skipped parts.
 use Rattle.std.specs.Prelude.{ℕ, ◌+◌, ◌≤◌, List, Option, Some, None}
+use Rattle.net_values.specs.declared.limits.TheConstants.{MAX_ARCS, MAX_PAGES, MAX_PLACES, MAX_REFERENCES, MAX_TRANSITIONS}
 use Rattle.pnml_grammar.specs.declared.element.ElementKind.{ElementKind}
 use Rattle.pnml_grammar.specs.declared.element.ElementKind.TheVariants as elements
 use Rattle.pnml_grammar.specs.declared.element.Context.{Context}
@@ -62,8 +63,8 @@ abbrev mutual
 
 -- the limits of a document
 pub record IsWithin (counts : Counts) : Type 0 where
-  pub places : counts.places ≤ 2048
-  pub transitions : counts.transitions ≤ 2048
-  pub arcs : counts.arcs ≤ 65536
-  pub references : counts.references ≤ 4096
-  pub pages : counts.pages ≤ 1024
+  pub places : counts.places ≤ MAX_PLACES
+  pub transitions : counts.transitions ≤ MAX_TRANSITIONS
+  pub arcs : counts.arcs ≤ MAX_ARCS
+  pub references : counts.references ≤ MAX_REFERENCES
+  pub pages : counts.pages ≤ MAX_PAGES

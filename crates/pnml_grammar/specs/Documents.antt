@@ -1,5 +1,6 @@
 -- The documents that tokens spell: whole elements, each with what may occur in it (ISO/IEC 15909-2).
 use Rattle.std.specs.Prelude.{◌≡◌, ℕ, ◌≤◌, Bool, true, false, ◌||◌, nat_le, List, [], ◌∷◌, ◌++◌, IsTrue, is_some, length, if◌then◌else◌}
+use Rattle.net_values.specs.declared.limits.TheConstants.{MAX_NAME_BYTES, MAX_OPEN_ELEMENTS}
 use Rattle.net_values.specs.declared.document.Document.{Document}
 use Rattle.pnml_grammar.specs.declared.element.Context.{Context}
 use Rattle.pnml_grammar.specs.declared.element.Context.TheVariants as contexts
@@ -13,21 +14,13 @@ use Rattle.pnml_grammar.specs.Trees.{Node, element, empty_element, comment, inst
 use Rattle.pnml_grammar.specs.Contents.{Content, nothing, nodes_content}
 use Rattle.pnml_grammar.specs.Counts.{nodes_counts, IsWithin}
 
--- the most elements that are open at an offset
-abbrev pub depth_limit : ℕ
-depth_limit = 128
-
--- the most bytes of a name
-abbrev pub name_limit : ℕ
-name_limit = 65536
-
 -- the children of an element give one net, one name, one number and one text at most
 pub record HasFew (content : Content) : Type 0 where
   pub nets : length content.nets ≤ 1
   pub names : length content.names ≤ 1
   pub numbers : length content.numbers ≤ 1
   pub texts : length content.texts ≤ 1
-  pub bytes : length content.bytes ≤ name_limit
+  pub bytes : length content.bytes ≤ MAX_NAME_BYTES
   pub numerals : length content.numerals ≤ 1
 
 -- the root has a net, and a number's text a number
@@ -80,7 +73,7 @@ pub record Spells (document : Document) (list : List Token) : Type 0 where
   pub nodes : Nodes
   pub list_is : list ≡ opening declared ++ nodes_tokens nodes
   pub each : EachChild contexts.Document nodes
-  pub shallow : nodes_height nodes ≤ depth_limit
+  pub shallow : nodes_height nodes ≤ MAX_OPEN_ELEMENTS
   pub counted : IsWithin (nodes_counts contexts.Document nodes)
   pub one : (nodes_content contexts.Document nodes).nets ≡ document.net ∷ []
   pub valued : Valued document

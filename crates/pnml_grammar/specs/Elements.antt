@@ -1,6 +1,7 @@
 -- The elements and attributes that are read, and what each may hold (ISO/IEC 15909-2).
 use Rattle.std.specs.Prelude.{ℕ, Bool, true, false, ◌==◌, ◌&&◌, ◌||◌, not, nat_le, nat_lt, List, [], ◌∷◌, Option, Some, None, is_some, length, codes, bytes_eq, position, slice_get, option_and_then, if◌then◌else◌}
 use Rattle.std.specs.List.{list_all, list_any}
+use Rattle.net_values.specs.declared.limits.TheConstants.{MAX_ID_BYTES}
 use Rattle.pnml_grammar.specs.declared.element.ElementKind.{ElementKind}
 use Rattle.pnml_grammar.specs.declared.element.ElementKind.TheVariants as elements
 use Rattle.pnml_grammar.specs.declared.element.AttributeKind.{AttributeKind}
@@ -65,10 +66,10 @@ needs elements.ReferenceTransition Id = true
 needs elements.ReferenceTransition Ref = true
 needs _ _ = false
 
--- a value of `id`, `source`, `target` or `ref`: 1 to 4,096 bytes, none of them a control character of ASCII
+-- a value of `id`, `source`, `target` or `ref`: 1 to MAX_ID_BYTES bytes, none of them a control character of ASCII
 -- or a space
 unfoldable pub is_id : List ℕ → Bool
-is_id value = nat_le 1 (length value) && nat_le (length value) 4096 && list_all (λ byte. nat_lt 32 byte && not (byte == 127)) value
+is_id value = nat_le 1 (length value) && nat_le (length value) MAX_ID_BYTES && list_all (λ byte. nat_lt 32 byte && not (byte == 127)) value
 
 -- the namespace may occur on every element, with the value that has_namespace asks for
 abbrev pub fits_as : ElementKind → AttributeKind → List ℕ → Bool

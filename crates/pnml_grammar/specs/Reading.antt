@@ -2,6 +2,7 @@
 use Rattle.std.specs.Prelude.{ℕ, zero, suc, ◌-◌, Bool, true, false, not, ◌==◌, ◌||◌, ◌&&◌, nat_le, if◌then◌else◌, List, [], ◌∷◌, Option, Some, None, is_none, length, map, take, codes, chars, bytes_eq}
 use Rattle.std.specs.List.{list_all, list_any}
 use Rattle.std.specs.Str.{is_utf8, str_to_ascii_lowercase}
+use Rattle.net_values.specs.declared.limits.TheConstants.{MAX_TOKEN_BYTES}
 use Rattle.pnml_grammar.specs.declared.token.Attribute.{Attribute}
 use Rattle.pnml_grammar.specs.declared.token.Token.{Token}
 use Rattle.pnml_grammar.specs.declared.token.Token.TheVariants.{Declaration, Comment, Instruction, Cdata, Start, Empty, End, Characters}
@@ -10,7 +11,7 @@ use Rattle.pnml_grammar.specs.Names.{is_name_start, is_name_byte}
 use Rattle.pnml_grammar.specs.Values.{lines_ended}
 use Rattle.pnml_grammar.specs.Attributes.{is_value_byte}
 use Rattle.pnml_grammar.specs.Declarations.{RawAttribute, declare}
-use Rattle.pnml_grammar.specs.Tokens.{is_text_byte, spelling_limit}
+use Rattle.pnml_grammar.specs.Tokens.{is_text_byte}
 use Rattle.pnml_grammar.specs.Runs.{◌>>=◌, passed, beyond, past, past_text, until}
 use Rattle.pnml_grammar.specs.Resolving.{is_legal_character, text_of, value_of}
 
@@ -167,7 +168,7 @@ abbrev pub before_rest : List ℕ → List ℕ → List ℕ
 before_rest bytes rest = take (length bytes - length rest) bytes
 
 unfoldable pub is_spelling : List ℕ → Bool
-is_spelling bytes = nat_le (length bytes) spelling_limit && is_legal bytes
+is_spelling bytes = nat_le (length bytes) MAX_TOKEN_BYTES && is_legal bytes
 
 -- the token at the front, and the bytes after it
 unfoldable pub token_from : List ℕ → Option (Token × List ℕ)

@@ -8,7 +8,7 @@
 --    6 BadAttribute    a read tag has an attribute that it may not have, or lacks one that it needs
 --    7 BadNumber       characters in a number's text are no number in range, or the text has none
 --    8 Misplaced       one of the cases M1 to M9
---    9 TooDeep         a tag is where 128 elements are open
+--    9 TooDeep         a tag is where MAX_OPEN_ELEMENTS elements are open
 --   10 TooMany         a tag passes a count, or a name is too long
 --
 --   M1 late declaration        a declaration that isn't the first token
@@ -25,6 +25,7 @@
 -- the elements that are open where it occurs.
 use Rattle.std.specs.Prelude.{ℕ, ◌+◌, Bool, true, false, ◌&&◌, ◌||◌, not, nat_le, nat_lt, nat_eq, List, [], ◌∷◌, Option, Some, None, is_none, length, codes, if◌then◌else◌, bytes_eq}
 use Rattle.std.specs.List.{starts_with}
+use Rattle.net_values.specs.declared.limits.TheConstants.{MAX_ARCS, MAX_NAME_BYTES, MAX_OPEN_ELEMENTS, MAX_PAGES, MAX_PLACES, MAX_REFERENCES, MAX_TRANSITIONS}
 use Rattle.pnml_grammar.specs.declared.element.ElementKind.{ElementKind}
 use Rattle.pnml_grammar.specs.declared.element.ElementKind.TheVariants as elements
 use Rattle.pnml_grammar.specs.declared.element.Context.{Context}
@@ -39,7 +40,6 @@ use Rattle.pnml_grammar.specs.Elements.{element_named, may_hold, has_namespace, 
 use Rattle.pnml_grammar.specs.Numerals.{is_white, number_in}
 use Rattle.pnml_grammar.specs.Contents.{Content}
 use Rattle.pnml_grammar.specs.Counts.{Counts}
-use Rattle.pnml_grammar.specs.Documents.{depth_limit, name_limit}
 use Rattle.pnml_grammar.specs.OpenElements.{State}
 
 -- a row: whether it applies, and the reason that it gives
@@ -87,16 +87,16 @@ is_pnml _ = false
 
 -- row 9: as many elements are open as may be
 unfoldable pub is_full : State → Bool
-is_full state = nat_le depth_limit (length state.under)
+is_full state = nat_le MAX_OPEN_ELEMENTS (length state.under)
 
 -- row 10: one more element of the kind passes its count
 abbrev pub count_rows : Counts → ElementKind → List Row
-count_rows counts elements.Place = (nat_le 2048 counts.places, TooMany counted.Places) ∷ []
-count_rows counts elements.Transition = (nat_le 2048 counts.transitions, TooMany counted.Transitions) ∷ []
-count_rows counts elements.Arc = (nat_le 65536 counts.arcs, TooMany counted.Arcs) ∷ []
-count_rows counts elements.ReferencePlace = (nat_le 4096 counts.references, TooMany counted.References) ∷ []
-count_rows counts elements.ReferenceTransition = (nat_le 4096 counts.references, TooMany counted.References) ∷ []
-count_rows counts elements.Page = (nat_le 1024 counts.pages, TooMany counted.Pages) ∷ []
+count_rows counts elements.Place = (nat_le MAX_PLACES counts.places, TooMany counted.Places) ∷ []
+count_rows counts elements.Transition = (nat_le MAX_TRANSITIONS counts.transitions, TooMany counted.Transitions) ∷ []
+count_rows counts elements.Arc = (nat_le MAX_ARCS counts.arcs, TooMany counted.Arcs) ∷ []
+count_rows counts elements.ReferencePlace = (nat_le MAX_REFERENCES counts.references, TooMany counted.References) ∷ []
+count_rows counts elements.ReferenceTransition = (nat_le MAX_REFERENCES counts.references, TooMany counted.References) ∷ []
+count_rows counts elements.Page = (nat_le MAX_PAGES counts.pages, TooMany counted.Pages) ∷ []
 count_rows counts _ = []
 
 -- rows 3 to 10, outside skipped parts; M3 and M4 of another element than `pnml` are M2 around the root
@@ -142,7 +142,7 @@ end_rows state name = end_rows_in state.top.context state.top.content (is_other_
 
 -- row 10: the text of a name is longer than a name may be
 abbrev pub name_rows : Content → List ℕ → List Row
-name_rows content value = (nat_lt name_limit (length content.bytes + length value), TooMany counted.NameBytes) ∷ []
+name_rows content value = (nat_lt MAX_NAME_BYTES (length content.bytes + length value), TooMany counted.NameBytes) ∷ []
 
 -- row 7, and M6 after the number
 abbrev pub number_rows : Context → Content → List ℕ → List Row

@@ -2,6 +2,7 @@
 use Rattle.std.specs.Prelude.{◌≡◌, ◌≢◌, ℕ, ◌+◌, ◌≤◌, Bool, true, ◌==◌, not, ◌⊎◌, if◌then◌else◌, List, [], ◌∷◌, ◌++◌, length, drop, nat_eq, codes}
 use Rattle.std.specs.List.{starts_with}
 use Rattle.std.specs.Str.{str_to_ascii_lowercase}
+use Rattle.net_values.specs.declared.limits.TheConstants.{MAX_TOKEN_BYTES}
 use Rattle.net_values.specs.Characters.{IsLegalText}
 use Rattle.pnml_grammar.specs.declared.token.Token.{Token}
 use Rattle.pnml_grammar.specs.declared.token.Token.TheVariants.{Declaration, Comment, Instruction, Cdata, Start, Empty, End, Characters}
@@ -71,16 +72,12 @@ abbrev pub MayFollow : Token → List ℕ → Type 0
 MayFollow (Characters value) rest = IsTextEnd rest
 MayFollow _ rest = Unit
 
--- the most bytes that a spelling has
-abbrev pub spelling_limit : ℕ
-spelling_limit = 1048576
-
 -- the bytes are a spelling of the token and this rest
 pub record Occurs (bytes : List ℕ) (token : Token) (spelling rest : List ℕ) : Type 0 where
   pub parts : bytes ≡ spelling ++ rest
   pub spells : IsSpelling token spelling
   pub legal : IsLegalText spelling
-  pub short : length spelling ≤ spelling_limit
+  pub short : length spelling ≤ MAX_TOKEN_BYTES
   pub follows : MayFollow token rest
 
 -- at offset k of the bytes occurs the token, and it ends at offset e

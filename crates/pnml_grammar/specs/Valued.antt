@@ -1,6 +1,7 @@
 -- Documents whose values are in the ranges that this project reads and writes.
 use Rattle.std.specs.Prelude.{◌≡◌, ◌==◌, if◌then◌else◌, ℕ, ◌+◌, ◌-◌, ◌^◌, ◌≤◌, ◌<◌, List, [], ◌∷◌, Option, Some, None, IfSome, count_by, ◌⊎◌}
 use Rattle.std.specs.List.{AllByRecursion}
+use Rattle.net_values.specs.declared.limits.TheConstants.{MAX_ARCS, MAX_OPEN_ELEMENTS, MAX_PAGES, MAX_PLACES, MAX_REFERENCES, MAX_TRANSITIONS}
 use Rattle.net_values.specs.declared.document.Document.{Document}
 use Rattle.net_values.specs.declared.document.Item.{Item}
 use Rattle.net_values.specs.declared.document.Item.TheVariants.{Page, PageEnd, Place, Transition, RefPlace, RefTransition, Arc}
@@ -44,20 +45,20 @@ item_height (RefPlace node) = 1 + name_height node.name
 item_height (RefTransition node) = 1 + name_height node.name
 item_height (Arc arc) = if arc.weight == 1 then 1 + name_height arc.name else 3
 
--- with this many elements open, the canonical text of the items has at most 128 open anywhere
+-- with this many elements open, the canonical text of the items has at most MAX_OPEN_ELEMENTS open anywhere
 abbrev pub IsShallow : ℕ → List Item → Type 0
 IsShallow opened [] = Unit
-IsShallow opened (Page page ∷ items) = (opened + item_height (Page page) ≤ 128) × IsShallow (opened + 1) items
+IsShallow opened (Page page ∷ items) = (opened + item_height (Page page) ≤ MAX_OPEN_ELEMENTS) × IsShallow (opened + 1) items
 IsShallow opened (PageEnd ∷ items) = IsShallow (opened - 1) items
-IsShallow opened (item ∷ items) = (opened + item_height item ≤ 128) × IsShallow opened items
+IsShallow opened (item ∷ items) = (opened + item_height item ≤ MAX_OPEN_ELEMENTS) × IsShallow opened items
 
 -- the counts of a document are within the limits
 pub record IsWithinLimits (items : List Item) : Type 0 where
-  pub places : count_by is_place items ≤ 2048
-  pub transitions : count_by is_transition items ≤ 2048
-  pub arcs : count_by is_arc items ≤ 65536
-  pub references : count_by is_reference items ≤ 4096
-  pub pages : count_by is_page items ≤ 1024
+  pub places : count_by is_place items ≤ MAX_PLACES
+  pub transitions : count_by is_transition items ≤ MAX_TRANSITIONS
+  pub arcs : count_by is_arc items ≤ MAX_ARCS
+  pub references : count_by is_reference items ≤ MAX_REFERENCES
+  pub pages : count_by is_page items ≤ MAX_PAGES
 
 -- a valued document; `pnml` and `net` are the two elements that are open around its items
 pub record Valued (document : Document) : Type 0 where

@@ -2,6 +2,7 @@
 use Rattle.std.specs.Prelude.{ℕ, ◌+◌, ◌-◌, ◌^◌, ◌==◌, ◌&&◌, not, nat_le, nat_lt, Bool, true, false, if◌then◌else◌, List, [], ◌∷◌, Option, Some, None, length, chars}
 use Rattle.std.specs.List.{list_all}
 use Rattle.std.specs.Str.{is_utf8}
+use Rattle.net_values.specs.declared.limits.TheConstants.{MAX_ARCS, MAX_ID_BYTES, MAX_NAME_BYTES, MAX_OPEN_ELEMENTS, MAX_PAGES, MAX_PLACES, MAX_REFERENCES, MAX_TRANSITIONS}
 use Rattle.net_values.specs.declared.document.Document.{Document}
 use Rattle.net_values.specs.declared.document.Item.{Item}
 use Rattle.net_values.specs.declared.document.Item.TheVariants.{Page, PageEnd, Place, Transition, RefPlace, RefTransition, Arc}
@@ -19,10 +20,10 @@ abbrev pub is_id_character : ℕ → Bool
 is_id_character c = is_legal_character c && nat_lt 0x20 c && not (c == 0x7F)
 
 unfoldable pub is_valued_id : List ℕ → Bool
-is_valued_id bytes = nat_le 1 (length bytes) && nat_le (length bytes) 4096 && is_text_of is_id_character bytes
+is_valued_id bytes = nat_le 1 (length bytes) && nat_le (length bytes) MAX_ID_BYTES && is_text_of is_id_character bytes
 
 unfoldable pub is_valued_name : List ℕ → Bool
-is_valued_name bytes = nat_le (length bytes) 65536 && is_text_of is_legal_character bytes
+is_valued_name bytes = nat_le (length bytes) MAX_NAME_BYTES && is_text_of is_legal_character bytes
 
 abbrev pub is_valued_name_if_any : Option (List ℕ) → Bool
 is_valued_name_if_any None = true
@@ -58,17 +59,17 @@ beyond walk (Arc arc) = record walk { arcs = walk.arcs + 1 }
 
 -- one item more of a kind is within the limits, and an end of a page ends one that is open
 abbrev pub may_count : Walk → Item → Bool
-may_count walk (Page page) = nat_lt walk.pages 1024
+may_count walk (Page page) = nat_lt walk.pages MAX_PAGES
 may_count walk PageEnd = nat_lt 0 walk.opened
-may_count walk (Place place) = nat_lt walk.places 2048
-may_count walk (Transition transition) = nat_lt walk.transitions 2048
-may_count walk (RefPlace node) = nat_lt walk.references 4096
-may_count walk (RefTransition node) = nat_lt walk.references 4096
-may_count walk (Arc arc) = nat_lt walk.arcs 65536
+may_count walk (Place place) = nat_lt walk.places MAX_PLACES
+may_count walk (Transition transition) = nat_lt walk.transitions MAX_TRANSITIONS
+may_count walk (RefPlace node) = nat_lt walk.references MAX_REFERENCES
+may_count walk (RefTransition node) = nat_lt walk.references MAX_REFERENCES
+may_count walk (Arc arc) = nat_lt walk.arcs MAX_ARCS
 
--- no more than 128 elements are open, of which the root and the net are two
+-- no more than MAX_OPEN_ELEMENTS elements are open, of which the root and the net are two
 abbrev pub is_low : Walk → Item → Bool
-is_low walk item = nat_le walk.opened (126 - item_height item)
+is_low walk item = nat_le walk.opened (MAX_OPEN_ELEMENTS - 2 - item_height item)
 
 abbrev pub past : Walk → Item → Option Walk
 past walk item = if is_low walk item && may_count walk item then Some (beyond walk item) else None

@@ -1,6 +1,7 @@
 ghost use Rattle.pnml_grammar.specs.CanonicalTexts.{SpellTheirDocuments, TellDocumentsApart};
 ghost use Rattle.pnml_grammar.specs.Documents.{SpellOneDocument};
 ghost use Rattle.pnml_grammar.specs.FirstFault.{HaveOneAnswer, HaveSomeAnswer, RowsTellFaults};
+ghost use Rattle.pnml_grammar.specs.Numerals.{AreRead};
 ghost use Rattle.pnml_grammar.specs.Tokens.{HasOneToken, HasTokenOrNone};
 ghost use Rattle.pnml_grammar.specs.Valued.{IsValuedOrNot};
 
@@ -32,6 +33,11 @@ pub fn one_answer()
 /// After tokens that begin a document, some row of reasons applies exactly where no token goes on.
 pub fn a_reason_at_each_fault()
     ensures { RowsTellFaults }
+{}
+
+/// The number that is read in a text is that of its numeral, where there is one in range.
+pub fn numerals_are_read()
+    ensures { AreRead }
 {}
 
 /// A document is valued, or it isn't.

@@ -3,18 +3,15 @@ ghost use Rattle.std.specs.List.{list_all};
 ghost use Rattle.pnml_grammar.specs.Valued.{Valued};
 ghost use Rattle.pnml_grammar.specs.ValuedTests.{is_id_character, is_valued_id, is_valued_name, is_valued_name_if_any, has_values_in_range, start, walks};
 
-use crate::legal::{is_legal_character, is_legal_text};
+use crate::legal::{are_legal, is_legal};
 use crate::walk::Walk;
-use net_values::{Document, Item, Text};
+use net_values::{Document, Item, MAX_ID_BYTES, MAX_NAME_BYTES, Text};
 
-const ID_LIMIT: usize = 4096;
-
-const NAME_LIMIT: usize = 65_536;
-
-/// Whether the values of the document are in range: ids of 1 to 4,096 bytes of legal characters without spaces
-/// and control characters, names of at most 65,536 bytes of legal characters, weights from 1 on, pages that
-/// match, at most 2,048 places and as many transitions, 65,536 arcs, 4,096 reference nodes and 1,024 pages, and
-/// at most 128 elements open in the canonical text. It takes no memory.
+/// Whether the values of the document are in range: ids of 1 to [`MAX_ID_BYTES`] bytes of legal characters without
+/// spaces and control characters, names of at most [`MAX_NAME_BYTES`] bytes of legal characters, weights from 1 on,
+/// pages that match, at most [`MAX_PLACES`](net_values::MAX_PLACES) places and as many of the other kinds as
+/// net_values says, and at most [`MAX_OPEN_ELEMENTS`](net_values::MAX_OPEN_ELEMENTS) elements open in the canonical
+/// text. It takes no memory.
 pub fn is_valued(document: &Document) -> bool
     ensures { IsTrue result ↔ Valued document.now }
 {
@@ -80,7 +77,7 @@ fn is_valued_name_if_any(name: &Option<Text>) -> bool
 fn is_valued_name(name: &Text) -> bool
     ensures { result ≡ is_valued_name name.now }
 {
-    name.as_bytes().len() <= NAME_LIMIT && is_legal_text(name.as_str())
+    name.as_bytes().len() <= MAX_NAME_BYTES && are_legal(name.as_str())
 }
 
 #[tactic(auto, using(crate::proofs::ValuedTestLaws::valued_id_is), unfolding(crate::specs::ValuedTests::is_valued_id))]
@@ -88,7 +85,7 @@ fn is_valued_id(id: &Text) -> bool
     ensures { result ≡ is_valued_id id.now }
 {
     let length = id.as_bytes().len();
-    1 <= length && length <= ID_LIMIT && are_id_characters(id.as_str())
+    1 <= length && length <= MAX_ID_BYTES && are_id_characters(id.as_str())
 }
 
 fn are_id_characters(text: &str) -> bool
@@ -101,5 +98,5 @@ fn are_id_characters(text: &str) -> bool
 fn is_id_character(character: char) -> bool
     ensures { result ≡ is_id_character character }
 {
-    is_legal_character(character) && character > ' ' && character != '\u{7F}'
+    is_legal(character) && character > ' ' && character != '\u{7F}'
 }

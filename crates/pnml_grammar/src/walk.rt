@@ -2,20 +2,7 @@ ghost use Rattle.std.specs.Prelude.{◌≡◌, ◌≤◌};
 ghost use Rattle.pnml_grammar.specs.Valued.{item_height, name_height};
 ghost use Rattle.pnml_grammar.specs.ValuedTests.{start, past};
 
-use net_values::{Item, Text};
-
-/// How many elements may be open in a net: 128 without the root and the net.
-const DEPTH_LIMIT: usize = 126;
-
-const PAGE_LIMIT: usize = 1024;
-
-const PLACE_LIMIT: usize = 2048;
-
-const TRANSITION_LIMIT: usize = 2048;
-
-const REFERENCE_LIMIT: usize = 4096;
-
-const ARC_LIMIT: usize = 65_536;
+use net_values::{Item, MAX_ARCS, MAX_OPEN_ELEMENTS, MAX_PAGES, MAX_PLACES, MAX_REFERENCES, MAX_TRANSITIONS, Text};
 
 /// What was passed before an item: how many pages are open there, and how many items of each kind there are.
 #[derive(Clone, Copy)]
@@ -48,11 +35,12 @@ impl Walk {
     pub(crate) fn past(self, item: &Item) -> Option<Walk>
         ensures { result ≡ past self item.now }
     {
-        if self.opened > DEPTH_LIMIT - height(item) {
+        // the root and the net are open around the pages
+        if self.opened > MAX_OPEN_ELEMENTS - 2 - height(item) {
             return None;
         }
         match item {
-            Item::Page(_) if self.pages < PAGE_LIMIT => Some(Walk {
+            Item::Page(_) if self.pages < MAX_PAGES => Some(Walk {
                 opened: self.opened + 1,
                 pages: self.pages + 1,
                 ..self
@@ -61,21 +49,21 @@ impl Walk {
                 opened: self.opened - 1,
                 ..self
             }),
-            Item::Place(_) if self.places < PLACE_LIMIT => Some(Walk {
+            Item::Place(_) if self.places < MAX_PLACES => Some(Walk {
                 places: self.places + 1,
                 ..self
             }),
-            Item::Transition(_) if self.transitions < TRANSITION_LIMIT => Some(Walk {
+            Item::Transition(_) if self.transitions < MAX_TRANSITIONS => Some(Walk {
                 transitions: self.transitions + 1,
                 ..self
             }),
-            Item::RefPlace(_) | Item::RefTransition(_) if self.references < REFERENCE_LIMIT => Some(
+            Item::RefPlace(_) | Item::RefTransition(_) if self.references < MAX_REFERENCES => Some(
                 Walk {
                     references: self.references + 1,
                     ..self
                 },
             ),
-            Item::Arc(_) if self.arcs < ARC_LIMIT => Some(Walk {
+            Item::Arc(_) if self.arcs < MAX_ARCS => Some(Walk {
                 arcs: self.arcs + 1,
                 ..self
             }),

@@ -7,7 +7,7 @@ use Rattle.pnml_grammar.specs.Runs.{◌>>=◌}
 use Rattle.pnml_grammar.specs.Reading.{attribute_of, attributes_of}
 use Rattle.pnml_token.specs.declared.miss.Miss.{Miss}
 use Rattle.pnml_token.specs.declared.miss.Miss.TheVariants.{NoToken, NoMemory}
-use Rattle.pnml_token.specs.declared.raw_attribute.RawAttribute.{RawAttribute as Lent}
+use Rattle.pnml_token.specs.declared.attributes.RawAttribute.{RawAttribute as Lent}
 use Rattle.pnml_token.specs.Views.{view, views}
 use Rattle.pnml_token.specs.Gives.{Misses}
 

@@ -1,19 +1,33 @@
 -- The test of a whole spelling, by the standard library's test of UTF-8; one of ASCII is its own characters.
-use Rattle.std.proofs.Common.{◌≡◌, ℕ, ◌<◌, Bool, true, false, List, [], ◌∷◌, Option, Some, None, Ok, refl, sym, ap, ◌∙◌, inl, inr, arith}
-use Rattle.std.specs.Prelude.{chars, IsUtf8, IsAscii, ok_or}
+use Rattle.std.proofs.Common.{◌≡◌, ℕ, ◌<◌, Bool, true, false, List, [], ◌∷◌, Option, Some, None, Ok, refl, sym, ap, subst, ◌∙◌, inl, inr, arith}
+use Rattle.std.specs.Prelude.{◌↔◌, IsTrue, chars, IsUtf8, IsAscii, ok_or}
 use Rattle.std.specs.List.{list_all}
 use Rattle.std.specs.Str.{is_utf8}
-use Rattle.std.proofs.lemmas.Bool.{cases_Bool, and_left, and_parts, and_from}
+use Rattle.std.proofs.lemmas.Bool.{true≢false, cases_Bool, and_left, and_parts, and_from}
 use Rattle.std.proofs.lemmas.Bool.Decides.{nat_tests}
 use Rattle.std.proofs.lemmas.Str.{IsUtf8-from_is_utf8, is_utf8-from_IsUtf8, IsUtf8-from_ascii, chars-IsAscii}
 use Rattle.std.proofs.lemmas.Str.Ascii.{IsAscii-nil, IsAscii-cons}
+use Rattle.net_values.specs.Characters.{IsLegalCharacter, IsLegalText}
 use Rattle.pnml_grammar.specs.Resolving.{is_legal_character}
 use Rattle.pnml_grammar.specs.Reading.{is_legal}
-use Rattle.pnml_token.specs.Classes.{is_plain_byte}
+use Rattle.pnml_grammar.proofs.ReferenceLaws.{legal_is, legal_found}
+use Rattle.pnml_grammar.proofs.TextLaws.{is_legal_is, is_legal_found}
+use Rattle.pnml_token.specs.ByteClasses.{is_plain_byte}
 
-pub legal_text : (text bytes : List ℕ) (b : Bool) → (text ≡ bytes) × IsUtf8 bytes → b ≡ list_all is_legal_character (chars text) → b ≡ is_legal bytes
-unfolding is_legal
-legal_text text bytes b h e = rw (is_utf8-from_IsUtf8 bytes h.1) (e ∙ ap (λ (t : List ℕ). list_all is_legal_character (chars t)) h.0)
+-- two tests of one property are one
+same_test : (b c : Bool) (P : Type 0) → IsTrue b ↔ P → IsTrue c ↔ P → b ≡ c
+same_test true true P one two = refl
+same_test true false P one two = absurd (true≢false (sym (two.1 (one.0 refl))))
+same_test false true P one two = absurd (true≢false (sym (one.1 (two.0 refl))))
+same_test false false P one two = refl
+
+pub legal_text : (text bytes : List ℕ) (b : Bool) → (text ≡ bytes) × IsUtf8 bytes → IsTrue b ↔ IsLegalText text → b ≡ is_legal bytes
+legal_text text bytes b h holds =
+    let told = subst (λ (t : List ℕ). IsTrue b ↔ IsLegalText t) h.0 holds in
+    same_test b (is_legal bytes) (IsLegalText bytes) told (is_legal_found bytes, is_legal_is bytes)
+
+pub legal_character : (c : ℕ) (b : Bool) → IsTrue b ↔ IsLegalCharacter c → b ≡ is_legal_character c
+legal_character c b holds = same_test b (is_legal_character c) (IsLegalCharacter c) holds (legal_found c, legal_is c)
 
 pub no_legal_text : (bytes : List ℕ) → ¬ (IsUtf8 bytes) → false ≡ is_legal bytes
 unfolding is_legal

@@ -9,3 +9,4 @@ pub mod Cuts
 pub mod PieceLaws
 pub mod LegalTexts
 pub mod Windows
+pub mod Endings

@@ -10,7 +10,7 @@ use Rattle.std.proofs.lemmas.Slice.Eq.{bytes_eq-Decides}
 use Rattle.std.proofs.lemmas.Map.Text.{is_eq-slice_cmp}
 use Rattle.pnml_grammar.specs.Declarations.{RawAttribute}
 use Rattle.pnml_grammar.specs.Reading.{are_new, raw_attribute_name}
-use Rattle.pnml_token.specs.declared.raw_attribute.RawAttribute.{RawAttribute as Lent}
+use Rattle.pnml_token.specs.declared.attributes.RawAttribute.{RawAttribute as Lent}
 use Rattle.pnml_token.specs.Views.{views}
 use Rattle.pnml_token.proofs.AttributeLists.{views_more, views_all}
 

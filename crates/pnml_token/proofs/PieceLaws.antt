@@ -12,11 +12,11 @@ use Rattle.pnml_grammar.specs.Runs.{◌>>=◌, passed, beyond, past}
 use Rattle.pnml_grammar.specs.Resolving.{referenced, is_reference_byte, with_front, resolved, resolved_after, literal}
 use Rattle.pnml_grammar.proofs.RunLaws.{bind_some, some_pair_is, past_found, Stops, passed-beyond, passed_each, after_stops}
 use Rattle.pnml_grammar.proofs.ValueLaws.{reference_passed}
-use Rattle.pnml_token.specs.declared.class.Class.TheVariants.{Plain, Line}
+use Rattle.pnml_token.specs.declared.runs.ByteClass.TheVariants.{Plain, Line}
 use Rattle.pnml_token.specs.declared.miss.Miss.{Miss}
 use Rattle.pnml_token.specs.declared.miss.Miss.TheVariants.{NoToken, NoMemory}
-use Rattle.pnml_token.specs.Classes.{in_class}
-use Rattle.pnml_token.specs.declared.piece.Piece.{Piece}
+use Rattle.pnml_token.specs.ByteClasses.{in_class}
+use Rattle.pnml_token.specs.declared.values.Piece.{Piece}
 use Rattle.pnml_token.specs.Gives.{Misses, Gives}
 use Rattle.std.proofs.Common.{Bor, Result, Ok, Err}
 use Rattle.std.specs.Prelude.{IfOk, IfErr}

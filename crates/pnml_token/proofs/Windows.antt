@@ -2,9 +2,10 @@
 -- may have, and the other way round: whether characters end is told by that byte.
 use Rattle.std.proofs.Common.{◌≡◌, ℕ, zero, suc, ◌+◌, ◌-◌, ◌≤◌, min, List, [], ◌∷◌, ◌++◌, Some, None, Ok, Err, length, take, drop, refl, sym, ap, subst, ◌∙◌, arith, append_assoc, length-append}
 use Rattle.std.proofs.lemmas.List.{take-append-drop, length-take, drop_all}
+use Rattle.net_values.specs.declared.limits.TheConstants.{MAX_TOKEN_BYTES}
 use Rattle.pnml_grammar.specs.declared.token.Token.{Token}
 use Rattle.pnml_grammar.specs.declared.token.Token.TheVariants.{Declaration, Comment, Instruction, Cdata, Start, Empty, End, Characters}
-use Rattle.pnml_grammar.specs.Tokens.{IsTextEnd, MayFollow, Occurs, spelling_limit}
+use Rattle.pnml_grammar.specs.Tokens.{IsTextEnd, MayFollow, Occurs}
 use Rattle.pnml_grammar.specs.Reading.{shape_at, token_from}
 use Rattle.pnml_grammar.proofs.TokenLaws.{shape_found, token_is, token_found}
 use Rattle.pnml_token.specs.declared.miss.Miss.{Miss}
@@ -58,7 +59,7 @@ follow_less (End name) n rest follows = tt
 
 -- of this length
 abbrev window : List ℕ → ℕ
-window bytes = min (length bytes) (spelling_limit + 1)
+window bytes = min (length bytes) (MAX_TOKEN_BYTES + 1)
 
 occurs_whole : (bytes : List ℕ) (token : Token) (spelling rest : List ℕ) → Occurs (take (window bytes) bytes) token spelling rest
     → Occurs bytes token spelling (rest ++ drop (window bytes) bytes)

@@ -1,5 +1,5 @@
 -- What the readers of pnml_token say of their answers.
-pub mod Classes
+pub mod ByteClasses
 pub mod Gives
 pub mod Views
 pub mod Pieces

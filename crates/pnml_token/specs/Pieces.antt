@@ -4,8 +4,8 @@ use Rattle.pnml_grammar.specs.Values.{lines_ended}
 use Rattle.pnml_grammar.specs.Runs.{◌>>=◌, passed, beyond, past}
 use Rattle.pnml_grammar.specs.Resolving.{referenced, is_reference_byte, with_front, resolved, literal}
 use Rattle.pnml_token.specs.declared.miss.Miss.{Miss}
-use Rattle.pnml_token.specs.declared.piece.Piece.{Piece}
-use Rattle.pnml_token.specs.declared.piece.Piece.TheVariants.{Run, Character}
+use Rattle.pnml_token.specs.declared.values.Piece.{Piece}
+use Rattle.pnml_token.specs.declared.values.Piece.TheVariants.{Run, Character}
 use Rattle.pnml_token.specs.Gives.{Misses}
 
 -- the bytes that a part gives

@@ -5,10 +5,10 @@ use Rattle.pnml_grammar.specs.Tokens.{Occurs}
 use Rattle.pnml_token.specs.declared.miss.Miss.{Miss}
 use Rattle.pnml_token.specs.declared.miss.Miss.TheVariants as misses
 use Rattle.pnml_token.specs.declared.miss.Miss.TheVariants.{NoToken}
-use Rattle.pnml_token.specs.declared.step.Step.{Step}
-use Rattle.pnml_token.specs.declared.step.Step.TheVariants as steps
-use Rattle.pnml_token.specs.declared.step.TokenFault.{TokenFault}
-use Rattle.pnml_token.specs.declared.step.TokenFault.TheVariants.{BadToken, NoMemory}
+use Rattle.pnml_token.specs.declared.token.Step.{Step}
+use Rattle.pnml_token.specs.declared.token.Step.TheVariants as steps
+use Rattle.pnml_token.specs.declared.token.TokenFault.{TokenFault}
+use Rattle.pnml_token.specs.declared.token.TokenFault.TheVariants.{BadToken, NoMemory}
 
 -- of a token and its end
 abbrev pub IfToken : Step → (Token → ℕ → Type 0) → Type 0

@@ -1,7 +1,7 @@
 -- A setting without where its bytes lie in memory.
 use Rattle.std.specs.Prelude.{List, map}
 use Rattle.pnml_grammar.specs.Declarations.{RawAttribute}
-use Rattle.pnml_token.specs.declared.raw_attribute.RawAttribute.{RawAttribute as Lent}
+use Rattle.pnml_token.specs.declared.attributes.RawAttribute.{RawAttribute as Lent}
 
 abbrev pub view : Lent → RawAttribute
 view s = record { name = s.name.now; body = s.body.now }

@@ -1,27 +1,20 @@
 //! What occurs at an offset: the one token that the definition of pnml_grammar puts there, with its end, or
 //! the answer that none does.
+//!
+//! Each reader is headed by the production of XML 1.0 (fifth edition) that it reads, less the front that told
+//! what comes. A reader gives what it read and the bytes that follow.
 #![tactic(auto)]
 
-mod attribute;
-mod character;
-mod class;
-mod distinct;
-mod legal;
+mod attributes;
+mod legality;
 mod markup;
 mod miss;
-mod name;
-mod part;
-mod piece;
-mod raw_attribute;
-mod reference;
-mod run;
-mod shape;
-mod step;
-mod tag;
-mod text;
-mod value;
+mod references;
+mod runs;
+mod token;
+mod values;
 
-pub use step::{Step, TokenFault, token_at};
+pub use token::{Step, TokenFault, token_at};
 
 #[cfg(test)]
 mod tests;

@@ -13,7 +13,7 @@ fn main(rt: HostRuntime) -> io::Result<()> {
     rt.stdin().read_to_end(&mut bytes)?;
     match count(rt.alloc(), bytes.as_slice()) {
         Ok(tokens) => println!(rt; "{tokens} tokens")?,
-        Err(TokenFault::BadToken(place)) => println!(rt; "bad token at {place}")?,
+        Err(TokenFault::BadToken(offset)) => println!(rt; "bad token at {offset}")?,
         Err(TokenFault::NoMemory) => println!(rt; "out of memory")?,
     }
     Ok(())

@@ -3,7 +3,7 @@ use Rattle.std.proofs.Common.{arith}
 use Rattle.std.proofs.lemmas.Result.{err_from_is_err_and}
 use Rattle.pnml_grammar.proofs.OffsetLaws.{token_goes_on, token_end_inside}
 use Rattle.pnml_decode.specs.Views.{view}
-use Rattle.pnml_decode.proofs.LoopLaws.{missing_is_first, token_goes_on_read, stop_is_first, token_at_step}
+use Rattle.pnml_decode.proofs.LoopLaws.{missing_is_first, token_goes_on_read, refusal_is_first, token_at_step}
 use Rattle.pnml_decode.proofs.document.read_tokens.Goals as goal
 
 pub returns-in_err-token-clause-fault : goal.returns-in_err-token-clause-fault
@@ -14,7 +14,7 @@ returns-in_err-token-clause-fault c =
 pub tokens-preserved : goal.tokens-preserved
 tokens-preserved c =
     let at = token_at_step c.args.bytes.now c.tokens.offset _ _ _ c.in-Token.is c.in_ok-token.ensures.token in
-    token_goes_on_read c.args.bytes.now c.tokens.offset (view c.tokens.reader) (view c.take.new.self) c.in-Token.token c.in-Token.end c.tokens.invariant.0 at c.in-Ok.ensures.ok
+    token_goes_on_read c.args.bytes.now c.tokens.offset (view c.tokens.reader) (view c.take.new.self) c.in-Token.token c.in-Token.end c.tokens.invariant.0 at c.in-Ok.ensures
 
 pub tokens-smaller : goal.tokens-smaller
 tokens-smaller c =
@@ -27,4 +27,4 @@ pub returns-in-Err-clause-fault : goal.returns-in-Err-clause-fault
 returns-in-Err-clause-fault c =
     let at = token_at_step c.args.bytes.now c.tokens.offset _ _ _ c.in-Token.is c.in_ok-token.ensures.token in
     rw c.refusal_at.ensures
-    (stop_is_first c.in-Err.stop c.args.bytes.now c.tokens.offset (view c.tokens.reader) c.in-Token.token c.in-Token.end c.requires c.tokens.invariant.0 at c.in-Err.ensures.because)
+    (refusal_is_first c.in-Err.fault c.args.bytes.now c.tokens.offset (view c.tokens.reader) c.in-Token.token c.in-Token.end c.requires c.tokens.invariant.0 at c.in-Err.ensures)

@@ -10,5 +10,5 @@ end_inside bytes k token e h = omega (arith, h.end_is, h.inside, ap length h.occ
 
 pub loop-preserved : goal.loop-preserved
 loop-preserved c =
-    let at = subst (λ step. IfToken step (λ token e. TokenAt c.args.bytes.now c.loop.place token e)) c.in-Token.is c.in_ok-end.ensures.token in
-    (end_inside c.args.bytes.now c.loop.place c.in-Token.field-0 c.in-Token.end at, omega arith)
+    let at = subst (λ step. IfToken step (λ token e. TokenAt c.args.bytes.now c.loop.offset token e)) c.in-Token.is c.in_ok-end.ensures.token in
+    (end_inside c.args.bytes.now c.loop.offset c.in-Token.field-0 c.in-Token.end at, omega arith)

@@ -1,0 +1,170 @@
+ghost use Rattle.std.specs.Prelude.{◌≡◌, codes, is_some, option_copied, option_map};
+ghost use Rattle.std.specs.List.{prefix_len};
+ghost use Rattle.pnml_grammar.specs.Characters.{is_space};
+ghost use Rattle.pnml_grammar.specs.Names.{is_name_start};
+ghost use Rattle.pnml_grammar.specs.Reading.{name_at, name_after_space, quote_at};
+ghost use Rattle.pnml_grammar.specs.Runs.{passed, beyond, past, past_text, until};
+ghost use Rattle.pnml_grammar.specs.Tokens.{is_text_byte};
+ghost use Rattle.pnml_token.specs.ByteClasses.{in_class};
+
+use memchr::{memchr, memmem};
+
+/// The classes of bytes that are in runs.
+#[derive(Clone, Copy)]
+pub(crate) enum ByteClass {
+    /// `#x20 | #x9 | #xD | #xA` (production 3, S).
+    Space,
+    /// `NameChar` (production 4a).
+    Name,
+    /// `[^<"]` or `[^<']`, by the quote (production 10, AttValue).
+    Value(u8),
+    /// What is between `&` and `;`: ASCII letters, digits and `#` (production 67, Reference).
+    Reference,
+    /// A line up to a carriage return.
+    Line,
+    /// What a value copies: no carriage return and no reference, and no other white space but spaces where
+    /// white space becomes spaces.
+    Plain(bool),
+}
+
+/// The first bytes of the class, and the bytes after them.
+pub(crate) fn split_run(class: ByteClass, bytes: &[u8]) -> (&[u8], &[u8])
+    ensures run { result.0.now ≡ passed (in_class class) bytes.now }
+    ensures rest { result.1.now ≡ beyond (in_class class) bytes.now }
+{
+    bytes.split_at(run_length(class, bytes))
+}
+
+/// How many bytes of the class come first.
+pub(crate) fn run_length(class: ByteClass, bytes: &[u8]) -> usize
+    ensures { result ≡ prefix_len (in_class class) bytes.now }
+{
+    bytes.iter().take_while(|byte| has(class, **byte)).count()
+}
+
+/// Whether the class has the byte.
+fn has(class: ByteClass, byte: u8) -> bool
+    ensures { result ≡ in_class class byte }
+{
+    match class {
+        ByteClass::Space => is_space(byte),
+        ByteClass::Name => {
+            is_name_start(byte) || byte.is_ascii_digit() || byte == b'-' || byte == b'.'
+        }
+        ByteClass::Value(quote) => byte != b'<' && byte != quote,
+        ByteClass::Reference => byte.is_ascii_alphanumeric() || byte == b'#',
+        ByteClass::Line => byte != b'\r',
+        ByteClass::Plain(spaces) => is_plain(spaces, byte),
+    }
+}
+
+/// `S` (production 3).
+pub(crate) fn is_space(byte: u8) -> bool
+    ensures { result ≡ is_space byte }
+{
+    byte == b'\t' || byte == b'\n' || byte == b'\r' || byte == b' '
+}
+
+/// `NameStartChar` (production 4); every byte of a character that isn't ASCII is one.
+fn is_name_start(byte: u8) -> bool
+    ensures { result ≡ is_name_start byte }
+{
+    byte.is_ascii_alphabetic() || byte == b'_' || byte == b':' || byte >= 128
+}
+
+fn is_plain(spaces: bool, byte: u8) -> bool
+    ensures { result ≡ in_class (ByteClass.Plain spaces) byte }
+{
+    byte != b'\r' && byte != b'&' && !(spaces && (byte == b'\t' || byte == b'\n'))
+}
+
+/// `S?`: what follows white space.
+pub(crate) fn past_space(bytes: &[u8]) -> &[u8]
+    ensures { result.now ≡ beyond (in_class ByteClass.Space) bytes.now }
+{
+    split_run(ByteClass::Space, bytes).1
+}
+
+/// `NameStartChar (NameChar)*` (production 5, Name).
+pub(crate) fn name_of(bytes: &[u8]) -> Option<(&[u8], &[u8])>
+    ensures { option_map (λ x. (x.0.now, x.1.now)) result ≡ name_at bytes.now }
+{
+    match bytes {
+        [first, ..] if is_name_start(*first) => Some(split_run(ByteClass::Name, bytes)),
+        _ => None,
+    }
+}
+
+/// `S Name`.
+pub(crate) fn name_after_space(bytes: &[u8]) -> Option<(&[u8], &[u8])>
+    ensures { option_map (λ x. (x.0.now, x.1.now)) result ≡ name_after_space bytes.now }
+{
+    match bytes {
+        [first, ..] if is_space(*first) => name_of(past_space(bytes)),
+        _ => None,
+    }
+}
+
+/// `'"' | "'"`.
+pub(crate) fn quote_of(bytes: &[u8]) -> Option<(u8, &[u8])>
+    ensures { option_map (λ x. (x.0, x.1.now)) result ≡ quote_at bytes.now }
+{
+    match bytes {
+        [quote, rest @ ..] if *quote == b'"' || *quote == b'\'' => Some((*quote, rest)),
+        _ => None,
+    }
+}
+
+/// What follows this byte, if it comes first.
+pub(crate) fn past(wanted: u8, bytes: &[u8]) -> Option<&[u8]>
+    ensures { option_copied result ≡ past wanted bytes.now }
+{
+    match bytes {
+        [first, rest @ ..] if *first == wanted => Some(rest),
+        _ => None,
+    }
+}
+
+/// What follows this text, if it comes first.
+pub(crate) fn past_text<'a>(text: &[u8], bytes: &'a [u8]) -> Option<&'a [u8]>
+    ensures { option_copied result ≡ past_text text.now bytes.now }
+{
+    if bytes.starts_with(text) {
+        Some(&bytes[text.len()..])
+    } else {
+        None
+    }
+}
+
+/// `[^<]*`: text up to the next markup, and the bytes from there on.
+pub(crate) fn split_markup(bytes: &[u8]) -> (&[u8], &[u8])
+    ensures run { result.0.now ≡ passed is_text_byte bytes.now }
+    ensures rest { result.1.now ≡ beyond is_text_byte bytes.now }
+{
+    bytes.split_at(text_length(bytes))
+}
+
+/// How many bytes come before the first `<`.
+fn text_length(bytes: &[u8]) -> usize
+    ensures { result ≡ prefix_len is_text_byte bytes.now }
+{
+    memchr(b'<', bytes).unwrap_or(bytes.len())
+}
+
+/// `Char* - (Char* part Char*)`, then the part: what comes before its first offset, and after it.
+pub(crate) fn until<'a>(part: &[u8], bytes: &'a [u8]) -> Option<(&'a [u8], &'a [u8])>
+    ensures { option_map (λ x. (x.0.now, x.1.now)) result ≡ until part.now bytes.now }
+{
+    let offset = memmem::find(bytes, part)?;
+    Some((&bytes[..offset], &bytes[offset + part.len()..]))
+}
+
+/// Whether `]]>` occurs anywhere in the bytes. Most texts have no `>`, and are told by that.
+pub(crate) fn has_section_end(bytes: &[u8]) -> bool
+    ensures { result ≡ is_some (until (codes "]]>") bytes.now) }
+{
+    match memchr(b'>', bytes) {
+        None => false,
+        Some(_) => until(b"]]>", bytes).is_some(),
+    }
+}
