@@ -2,4 +2,5 @@
 pub mod Causes
 pub mod Streams
 pub mod Adapters
+pub mod Writing
 pub mod Memory

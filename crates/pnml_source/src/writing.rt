@@ -1,7 +1,7 @@
-ghost use Rattle.std.specs.Prelude.{◌≡◌, ◌-◌, ◌≤◌, ◌<◌, length, take, drop, IfOk, OnOk, OnErr};
+ghost use Rattle.std.specs.Prelude.{◌-◌, ◌≤◌, ◌<◌, length, take, drop, IfOk, OnErr};
 ghost use Rattle.std.specs.Io.KnownBytes.{Appends, Keeps};
 ghost use Rattle.pnml_source.specs.Causes.{HasCause};
-ghost use Rattle.pnml_source.specs.Streams.{AppendsFront};
+ghost use Rattle.pnml_source.specs.Writing.{IsWritten};
 
 use crate::sink::Sink;
 
@@ -14,9 +14,7 @@ pub struct WriteFault;
 /// `WriteFault` where the sink failed, which then holds what it held and a prefix of the bytes.
 #[tactic(auto, using(crate::proofs::Chained::write_follows, crate::proofs::Chained::write_stops))]
 pub fn write_all<O: Sink>(sink: &mut O, bytes: &[u8]) -> Result<(), WriteFault>
-    ensures whole { OnOk result (Appends (O.held sink.old) (O.held sink.new) bytes.now) }
-    ensures cut { OnErr result (AppendsFront (O.held sink.old) (O.held sink.new) bytes.now) }
-    ensures cause { HasCause (O.faults sink.old) (O.faults sink.new) result }
+    ensures { IsWritten (O.held sink.old) (O.held sink.new) (O.faults sink.old) (O.faults sink.new) bytes.now result }
 {
     let mut at = 0;
     while at < bytes.len() {

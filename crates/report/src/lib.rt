@@ -1,15 +1,20 @@
-//! The texts that the tasks write: each is made whole, line by line, and is exactly the text that its
-//! definition gives.
+//! What the program tells: the texts of the tasks, each made whole and exactly as it is defined, and the line
+//! and the status of each refusal.
 #![tactic(auto)]
 
+mod fault_lines;
 mod lines;
 mod net_texts;
 mod nodes;
+mod reason_words;
+mod refusal;
 mod semiflow_texts;
 mod set_texts;
 #[cfg(test)]
 mod tests;
 
+pub use fault_lines::tell;
 pub use net_texts::{check_text, class_text};
+pub use refusal::{Excess, Refusal, status};
 pub use semiflow_texts::{place_semiflows_text, transition_semiflows_text};
 pub use set_texts::{siphons_text, traps_text};

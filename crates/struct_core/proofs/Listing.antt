@@ -1,6 +1,6 @@
 -- What the lists of a net, and the faults of listing them, tell.
-use Rattle.std.proofs.Common.{◌≡◌, ℕ, ◌<◌, ◌≤◌, List, refl, sym, subst, arith, inl, inr, IfOk}
-use Rattle.std.specs.Prelude.{Bool, Result, Ok, Err, IfErr}
+use Rattle.std.proofs.Common.{◌≡◌, ℕ, ◌<◌, List, sym, subst, arith, inr}
+use Rattle.std.specs.Prelude.{Bool, Result, IfErr}
 use Rattle.std.specs.Cmp.Lexicographic.{slice_cmp}
 use Rattle.std.specs.Ordering.{nat_cmp, bool_cmp}
 use Rattle.net_values.specs.Net.{Net}
@@ -10,17 +10,17 @@ use Rattle.incidence.specs.Semiflow.{all_columns}
 use Rattle.semiflow_elim.specs.declared.fault.ElimFault.{ElimFault}
 use Rattle.semiflow_elim.specs.declared.fault.ElimFault.TheVariants as faults
 use Rattle.semiflow_elim.specs.Bases.{IsMinimalRow}
-use Rattle.semiflow_elim.specs.FirstFail.{StepPasses, IsFirstFail, IsExplained}
+use Rattle.semiflow_elim.specs.FirstFail.{StepPasses, IsExplained}
 use Rattle.siphon_branch.specs.declared.fault.SetFault.{SetFault}
 use Rattle.siphon_branch.specs.declared.fault.SetFault.TheVariants as limits
 use Rattle.siphon_branch.specs.Faults.{FailsToList}
 use Rattle.closed_sets.specs.MinimalSets.{IsMinimalSet}
 use Rattle.siphon_branch.specs.Limits.{HasAtMostGrown}
 use Rattle.report.specs.Texts.{semiflows_text, sets_text}
-use Rattle.struct_core.specs.declared.refusal.Refusal.{Refusal}
-use Rattle.struct_core.specs.declared.refusal.Refusal.TheVariants.{Excess}
-use Rattle.struct_core.specs.declared.refusal.Excess.TheVariants.{WideSum, WideRow, RowBudget, SetLimit}
-use Rattle.struct_core.specs.Lines.{wide_sum_line, wide_row_line, budget_line, limit_line}
+use Rattle.report.specs.declared.refusal.Refusal.{Refusal}
+use Rattle.report.specs.declared.refusal.Refusal.TheVariants.{Excess}
+use Rattle.report.specs.declared.refusal.Excess.TheVariants.{WideSum, WideRow, RowBudget, SetLimit}
+use Rattle.report.specs.FaultLines.{wide_sum_line, wide_row_line, budget_line, limit_line}
 use Rattle.struct_core.specs.Answers.{FailsWith}
 use Rattle.struct_core.specs.Enumerations.{SemiflowOutcome, all_semiflows, wide_sum, wide_row, row_budget, SetOutcome, all_sets, set_limit}
 

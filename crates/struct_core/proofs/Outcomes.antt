@@ -1,20 +1,15 @@
 -- What the outcomes tell. A list that has exactly the things with a property has no other member; and bytes
 -- spell at most one document, which breaks a rule or none.
-use Rattle.std.proofs.Common.{◌≡◌, ℕ, List, refl, sym, ap, subst, arith, ◌∙◌, inl, inr}
-use Rattle.std.specs.Prelude.{Bool, All, Contains, length, slice_index, codes, ◌⊎◌}
-use Rattle.std.specs.Cmp.Lexicographic.{slice_cmp}
-use Rattle.std.specs.Ordering.{nat_cmp, bool_cmp}
+use Rattle.std.proofs.Common.{◌≡◌, ℕ, List, refl, sym, ap, subst, arith, ◌∙◌}
+use Rattle.std.specs.Prelude.{All, Contains}
 use Rattle.std.proofs.lemmas.List.Elements.{All-contains_itself}
 use Rattle.net_values.specs.declared.document.Document.{Document}
-use Rattle.net_values.specs.FlatNets.{NetLists, net_of}
-use Rattle.net_values.specs.Net.{Net, reversed}
-use Rattle.net_values.specs.TheList.{IsTheList}
+use Rattle.net_values.specs.Net.{Net}
 use Rattle.net_values.specs.PlaceSets.{has}
-use Rattle.closed_sets.specs.ClosedSets.{IsSiphon, IsTrap}
-use Rattle.incidence.specs.Matrix.{Matrix, incidence_of, transposed}
+use Rattle.closed_sets.specs.ClosedSets.{IsSiphon}
+use Rattle.incidence.specs.Matrix.{Matrix}
 use Rattle.incidence.specs.Semiflow.{all_columns}
 use Rattle.semiflow_elim.specs.Bases.{IsMinimalRow}
-use Rattle.closed_sets.specs.MinimalSets.{IsMinimalSet}
 use Rattle.pnml_grammar.specs.Canon.{canon}
 use Rattle.pnml_grammar.specs.Valued.{Valued}
 use Rattle.pnml_grammar.specs.Documents.{DocBytes}
@@ -23,7 +18,6 @@ use Rattle.pnml_grammar.proofs.DocumentLaws.{spells_one}
 use Rattle.pnml_grammar.proofs.OneFault.{one_answer}
 use Rattle.page_flatten.specs.Rules.{BreaksNoRule}
 use Rattle.page_flatten.proofs.OneAnswer.{breaks_where_faulty}
-use Rattle.report.specs.Texts.{semiflows_text, sets_text}
 use Rattle.struct_core.specs.declared.order.Task.TheVariants as tasks
 use Rattle.struct_core.specs.declared.order.Budgets.{Budgets}
 use Rattle.struct_core.specs.declared.order.Order.TheVariants.{Run}

@@ -1,5 +1,5 @@
 -- A fault of a call is a refusal that its outcome tells.
-use Rattle.std.proofs.Common.{◌≡◌, ℕ, ◌≤◌, List, refl, arith, inl, inr, ◌⊎◌, IfOk}
+use Rattle.std.proofs.Common.{ℕ, List, refl, arith, inl, inr, IfOk}
 use Rattle.std.specs.Prelude.{Result, Ok, Err, IfErr}
 use Rattle.net_values.specs.declared.document.Document.{Document as Read}
 use Rattle.net_values.specs.FlatNets.{NetLists}
@@ -15,10 +15,9 @@ use Rattle.pnml_decode.specs.Faults.{NamesFirstFault}
 use Rattle.struct_core.specs.declared.order.Task.{Task}
 use Rattle.struct_core.specs.declared.order.Budgets.{Budgets}
 use Rattle.struct_core.specs.declared.order.Order.TheVariants.{Run}
-use Rattle.struct_core.specs.declared.refusal.Refusal.{Refusal}
-use Rattle.struct_core.specs.declared.refusal.Refusal.TheVariants.{Document, Rule}
+use Rattle.report.specs.declared.refusal.Refusal.{Refusal}
+use Rattle.report.specs.declared.refusal.Refusal.TheVariants.{Document, Rule}
 use Rattle.struct_core.specs.Outcome.{Outcome, TaskOutcome, no_document, broken, answer}
-use Rattle.struct_core.specs.Refusals.{line_of}
 use Rattle.struct_core.specs.Answers.{FailsWith}
 
 pub document_refused : (task : Task) (budgets : Budgets) (bytes : List ℕ) (fault : DocFault) → NamesFirstFault fault bytes

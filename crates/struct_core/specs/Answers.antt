@@ -1,8 +1,8 @@
--- Why there is no text: out of memory, or by an outcome that the refusal tells.
-use Rattle.std.specs.Prelude.{◌≡◌, ◌⊎◌, ℕ, ◌≤◌, List}
-use Rattle.struct_core.specs.declared.refusal.Refusal.{Refusal}
-use Rattle.struct_core.specs.Lines.{memory_line}
-use Rattle.struct_core.specs.Refusals.{status_of, line_of}
+-- Why there is no text: out of memory, or by an outcome that the refusal tells; and how a run ends by that.
+use Rattle.std.specs.Prelude.{◌≡◌, ◌⊎◌, ℕ, ◌≤◌, List, [], Result, Ok, Err}
+use Rattle.report.specs.declared.refusal.Refusal.{Refusal}
+use Rattle.report.specs.FaultLines.{memory_line}
+use Rattle.report.specs.Refusals.{status_of, line_of}
 
 -- out of memory
 pub record IsMemory (refusal : Refusal) : Type 0 where
@@ -17,3 +17,12 @@ pub record IsTold (Tells : ℕ → List ℕ → Type 0) (refusal : Refusal) : Ty
 
 abbrev pub FailsWith : (ℕ → List ℕ → Type 0) → Refusal → Type 0
 FailsWith Tells refusal = IsMemory refusal ⊎ IsTold Tells refusal
+
+-- the status after a run whose text was written, or not, and the line that tells it
+abbrev pub status_after : {T : Type 0} → Result T Refusal → ℕ
+status_after (Ok done) = 0
+status_after (Err refusal) = status_of refusal
+
+abbrev pub line_after : {T : Type 0} → Result T Refusal → List ℕ
+line_after (Ok done) = []
+line_after (Err refusal) = line_of refusal

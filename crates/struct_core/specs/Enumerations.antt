@@ -1,5 +1,5 @@
 -- What listing the semiflows, siphons or traps of a net gives: a text, or the line that tells why not.
-use Rattle.std.specs.Prelude.{◌≡◌, ℕ, ◌<◌, List, Bool}
+use Rattle.std.specs.Prelude.{ℕ, ◌<◌, List, Bool}
 use Rattle.std.specs.Cmp.Lexicographic.{slice_cmp}
 use Rattle.std.specs.Ordering.{nat_cmp, bool_cmp}
 use Rattle.net_values.specs.Net.{Net}
@@ -12,7 +12,7 @@ use Rattle.semiflow_elim.specs.FirstFail.{StepPasses, IsFirstFail}
 use Rattle.closed_sets.specs.MinimalSets.{IsMinimalSet}
 use Rattle.siphon_branch.specs.Limits.{HasAtMostGrown, PassesLimit}
 use Rattle.report.specs.Texts.{semiflows_text, sets_text}
-use Rattle.struct_core.specs.Lines.{wide_sum_line, wide_row_line, budget_line, limit_line}
+use Rattle.report.specs.FaultLines.{wide_sum_line, wide_row_line, budget_line, limit_line}
 
 -- for the semiflows of a matrix; its rows and its columns have ids
 pub data SemiflowOutcome (m : Matrix) (ids columns : ℕ → List ℕ) (budget : ℕ) : ℕ → List ℕ → Type 0 where

@@ -1,8 +1,7 @@
 -- What the outcomes of runs tell.
-use Rattle.std.specs.Prelude.{◌≡◌, ◌≢◌, ◌⊎◌, ℕ, List, Bool, All, length, slice_index, codes}
+use Rattle.std.specs.Prelude.{◌≡◌, ℕ, List, Bool, All, length, slice_index, codes}
 use Rattle.net_values.specs.declared.document.Document.{Document}
 use Rattle.net_values.specs.FlatNets.{NetLists, net_of}
-use Rattle.net_values.specs.Net.{Net}
 use Rattle.net_values.specs.PlaceSets.{has}
 use Rattle.closed_sets.specs.ClosedSets.{IsSiphon, IsTrap}
 use Rattle.incidence.specs.Matrix.{Matrix, incidence_of, transposed}

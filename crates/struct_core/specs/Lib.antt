@@ -1,7 +1,5 @@
 -- What a run of the program means.
 pub mod Words
-pub mod Lines
-pub mod Refusals
 pub mod Columns
 pub mod Enumerations
 pub mod Outcome

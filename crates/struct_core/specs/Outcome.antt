@@ -20,7 +20,7 @@ use Rattle.struct_core.specs.declared.order.Task.TheVariants as tasks
 use Rattle.struct_core.specs.declared.order.Budgets.{Budgets}
 use Rattle.struct_core.specs.declared.order.Order.{Order}
 use Rattle.struct_core.specs.declared.order.Order.TheVariants.{Run}
-use Rattle.struct_core.specs.Lines.{document_line, rule_line}
+use Rattle.report.specs.FaultLines.{document_line, rule_line}
 use Rattle.struct_core.specs.Enumerations.{SemiflowOutcome, SetOutcome}
 
 -- the classes to which a net belongs (Murata 1989)

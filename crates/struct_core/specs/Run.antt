@@ -5,7 +5,7 @@ use Rattle.pnml_source.specs.Causes.{Rose}
 use Rattle.pnml_source.specs.Streams.{AppendsFront, TakesExactly}
 use Rattle.struct_core.specs.declared.order.Order.{Order}
 use Rattle.struct_core.specs.Words.{Means}
-use Rattle.struct_core.specs.Lines.{OwnLine}
+use Rattle.report.specs.FaultLines.{usage_line, length_line, read_line, write_line, memory_line}
 use Rattle.struct_core.specs.Outcome.{Outcome}
 
 -- a device as it is told: the bytes that it has left or holds, where it tells them, and its count of faults
@@ -33,6 +33,14 @@ IsAnswered status = (status ≢ 2) × (status ≢ 7) × (status ≢ 8) × (statu
 -- the statuses that have a line of their own, whatever the input
 abbrev pub HasOwnLine : ℕ → Type 0
 HasOwnLine status = (status ≡ 2) ⊎ (7 ≤ status)
+
+-- the status and the line of a run without an outcome, and of one whose text wasn't written whole
+pub data OwnLine : ℕ → List ℕ → Type 0 where
+  usage : OwnLine 2 usage_line
+  too_long : OwnLine 7 length_line
+  read_fault : OwnLine 8 read_line
+  write_fault : OwnLine 9 write_line
+  no_memory : OwnLine 10 memory_line
 
 -- a run with an outcome: all of the input was read, and the text was written, or the outcome's status given
 -- with its line

@@ -5,14 +5,13 @@ ghost use Rattle.struct_core.specs.Answers.{FailsWith};
 
 use crate::closed::{siphons, traps};
 use crate::order::{Budgets, Order, Task};
-use crate::refusal::Refusal;
 use crate::semiflows::{places, transitions};
 use net_class::class;
 use net_values::{Document, FlatNet, Text};
 use page_flatten::flatten;
 use pnml_decode::decode;
 use pnml_write::canonical;
-use report::{check_text, class_text};
+use report::{Refusal, check_text, class_text};
 use std::alloc::Global;
 
 /// The text of an order for an input.

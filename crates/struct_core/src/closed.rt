@@ -5,9 +5,8 @@ ghost use Rattle.report.specs.Nodes.{place_id};
 ghost use Rattle.struct_core.specs.Answers.{FailsWith};
 ghost use Rattle.struct_core.specs.Enumerations.{SetOutcome};
 
-use crate::refusal::{Excess, Refusal};
 use net_values::{FlatNet, Text};
-use report::{siphons_text, traps_text};
+use report::{Excess, Refusal, siphons_text, traps_text};
 use siphon_branch::{SetFault, minimal_siphons};
 use std::alloc::Global;
 

@@ -5,10 +5,8 @@ mod answer;
 mod closed;
 mod laws;
 mod order;
-mod refusal;
 mod running;
 mod semiflows;
-mod telling;
 mod words;
 
 pub use laws::{canonical_text_stays, printed_sets_are_closed, printed_vectors_are_semiflows};

@@ -1,13 +1,12 @@
 ghost use Rattle.struct_core.specs.Run.{device, Ran, HasRun};
-ghost use Rattle.struct_core.specs.Refusals.{status_after, line_after};
+ghost use Rattle.struct_core.specs.Answers.{status_after, line_after};
 ghost use Rattle.struct_core.specs.Words.{Means};
 
 use crate::answer::answer;
 use crate::order::Order;
-use crate::refusal::{Refusal, status};
-use crate::telling::tell;
 use crate::words::{Words, read_words};
 use pnml_source::{ReadAllFault, Sink, Source, read_all, write_all};
+use report::{Refusal, status, tell};
 use std::alloc::Global;
 
 // The most bytes that an input may have.

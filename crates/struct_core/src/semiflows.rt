@@ -5,15 +5,14 @@ ghost use Rattle.incidence.specs.Tables.{matrix_of};
 ghost use Rattle.semiflow_elim.specs.FirstFail.{IsExplained};
 ghost use Rattle.report.specs.Nodes.{place_id, transition_id};
 ghost use Rattle.report.specs.Texts.{semiflows_text};
-ghost use Rattle.struct_core.specs.declared.refusal.Refusal.{Refusal as Refusing};
+ghost use Rattle.report.specs.declared.refusal.Refusal.{Refusal as Refusing};
 ghost use Rattle.struct_core.specs.Answers.{FailsWith};
 ghost use Rattle.struct_core.specs.Columns.{row_name, column_name, column_count, IsSized, AreSized};
 ghost use Rattle.struct_core.specs.Enumerations.{SemiflowOutcome};
 
-use crate::refusal::{Excess, Refusal};
 use incidence::Incidence;
 use net_values::{FlatNet, NoMemory, Rows, Text};
-use report::{place_semiflows_text, transition_semiflows_text};
+use report::{Excess, Refusal, place_semiflows_text, transition_semiflows_text};
 use semiflow_elim::{ElimFault, minimal_semiflows};
 use std::alloc::Global;
 

@@ -1,5 +1,5 @@
 ghost use Rattle.std.specs.Prelude.{◌≡◌};
-ghost use Rattle.struct_core.specs.Refusals.{status_of, document_status, rule_status, excess_status};
+ghost use Rattle.report.specs.Refusals.{status_of, document_status, rule_status, excess_status};
 
 use net_values::{NoMemory, Text};
 use page_flatten::FlatFault;
@@ -7,29 +7,34 @@ use pnml_decode::DocFault;
 
 /// Why a run wrote no text, or not all of it.
 #[derive(Drop)]
-pub(crate) enum Refusal {
+pub enum Refusal {
     /// The words mean nothing.
     Usage,
     /// The input spells no document.
     Document(DocFault),
     /// The document breaks a rule.
     Rule(FlatFault),
-    /// The net's list is out of reach.
+    /// A number is out of range, or a list out of reach.
     Excess(Excess),
     /// The input has more bytes than may be read.
     TooLong,
+    /// The source of the input failed.
     ReadFault,
+    /// The sink for the text failed.
     WriteFault,
+    /// The system refused memory.
     NoMemory,
 }
 
-/// Why the semiflows, siphons or traps of a net aren't listed.
+/// Why the semiflows, the bounds, the siphons or the traps of a net aren't listed.
 #[derive(Drop)]
-pub(crate) enum Excess {
+pub enum Excess {
     /// A sum at the column of this id exceeds 2^127 - 1.
     WideSum(Text),
     /// An entry of a combination at the column of this id exceeds 2^127 - 1.
     WideRow(Text),
+    /// The sum of the initial tokens, weighed by this row of the list, counted from 0, exceeds 2^127 - 1.
+    WideBound(usize),
     /// The budget, the id of the column that passes it, and its number of candidates.
     RowBudget(u32, Text, u64),
     /// More siphons or traps than this are grown.
@@ -37,7 +42,7 @@ pub(crate) enum Excess {
 }
 
 /// The status of a refusal.
-pub(crate) fn status(refusal: &Refusal) -> u8
+pub fn status(refusal: &Refusal) -> u8
     ensures { result ≡ status_of refusal.now }
 {
     match refusal {
@@ -74,14 +79,14 @@ fn status_of_excess(excess: &Excess) -> u8
     ensures { result ≡ excess_status excess.now }
 {
     match excess {
-        Excess::WideSum(_) | Excess::WideRow(_) => 4,
+        Excess::WideSum(_) | Excess::WideRow(_) | Excess::WideBound(_) => 4,
         Excess::RowBudget(..) => 5,
         Excess::SetLimit(_) => 6,
     }
 }
 
 impl From<NoMemory> for Refusal {
-    ghost use Rattle.struct_core.specs.declared.refusal.Refusal.{Refusal};
+    ghost use Rattle.report.specs.declared.refusal.Refusal.{Refusal};
 
     ghost from_gives = { λ _ refusal. refusal ≡ Refusal.NoMemory };
 

@@ -1,20 +1,20 @@
 -- Refusals, with the status and the line of each.
-use Rattle.std.specs.Prelude.{ℕ, List, [], Result, Ok, Err}
+use Rattle.std.specs.Prelude.{ℕ, List}
 use Rattle.page_flatten.specs.declared.fault.FlatFault.{FlatFault}
 use Rattle.page_flatten.specs.declared.fault.FlatFault.TheVariants as rules
 use Rattle.pnml_decode.specs.declared.fault.DocFault.{DocFault}
 use Rattle.pnml_decode.specs.declared.fault.DocFault.TheVariants as documents
 use Rattle.pnml_grammar.specs.FirstFault.{not_utf8, at, truncated}
-use Rattle.struct_core.specs.declared.refusal.Refusal.{Refusal}
-use Rattle.struct_core.specs.declared.refusal.Refusal.TheVariants.{Usage, Document, Rule, Excess as Exceeds, TooLong, ReadFault, WriteFault, NoMemory}
-use Rattle.struct_core.specs.declared.refusal.Excess.{Excess}
-use Rattle.struct_core.specs.declared.refusal.Excess.TheVariants.{WideSum, WideRow, RowBudget, SetLimit}
-use Rattle.struct_core.specs.Lines.{document_line, rule_line, wide_sum_line, wide_row_line, budget_line, limit_line, usage_line, length_line, read_line, write_line, memory_line}
+use Rattle.report.specs.declared.refusal.Refusal.{Refusal}
+use Rattle.report.specs.declared.refusal.Refusal.TheVariants.{Usage, Document, Rule, Excess as Exceeds, TooLong, ReadFault, WriteFault, NoMemory}
+use Rattle.report.specs.declared.refusal.Excess.{Excess}
+use Rattle.report.specs.declared.refusal.Excess.TheVariants.{WideSum, WideRow, WideBound, RowBudget, SetLimit}
+use Rattle.report.specs.FaultLines.{document_line, rule_line, wide_sum_line, wide_row_line, wide_bound_line, budget_line, limit_line, usage_line, length_line, read_line, write_line, memory_line}
 
 abbrev pub document_status : DocFault → ℕ
 document_status documents.NoMemory = 10
-document_status (documents.NotUtf8 place) = 3
-document_status (documents.At place reason) = 3
+document_status (documents.NotUtf8 offset) = 3
+document_status (documents.At offset reason) = 3
 document_status (documents.Truncated length) = 3
 
 abbrev pub rule_status : FlatFault → ℕ
@@ -28,6 +28,7 @@ rule_status (rules.ArcEnds id) = 3
 abbrev pub excess_status : Excess → ℕ
 excess_status (WideSum id) = 4
 excess_status (WideRow id) = 4
+excess_status (WideBound row) = 4
 excess_status (RowBudget budget id count) = 5
 excess_status (SetLimit limit) = 6
 
@@ -43,13 +44,14 @@ status_of NoMemory = 10
 
 abbrev pub fault_line : DocFault → List ℕ
 fault_line documents.NoMemory = memory_line
-fault_line (documents.NotUtf8 place) = document_line (not_utf8 place)
-fault_line (documents.At place reason) = document_line (at place reason)
+fault_line (documents.NotUtf8 offset) = document_line (not_utf8 offset)
+fault_line (documents.At offset reason) = document_line (at offset reason)
 fault_line (documents.Truncated length) = document_line (truncated length)
 
 abbrev pub excess_line : Excess → List ℕ
 excess_line (WideSum id) = wide_sum_line id
 excess_line (WideRow id) = wide_row_line id
+excess_line (WideBound row) = wide_bound_line row
 excess_line (RowBudget budget id count) = budget_line budget id count
 excess_line (SetLimit limit) = limit_line limit
 
@@ -62,12 +64,3 @@ line_of TooLong = length_line
 line_of ReadFault = read_line
 line_of WriteFault = write_line
 line_of NoMemory = memory_line
-
--- the status after a run whose text was written, or not, and the line that tells it
-abbrev pub status_after : {T : Type 0} → Result T Refusal → ℕ
-status_after (Ok done) = 0
-status_after (Err refusal) = status_of refusal
-
-abbrev pub line_after : {T : Type 0} → Result T Refusal → List ℕ
-line_after (Ok done) = []
-line_after (Err refusal) = line_of refusal

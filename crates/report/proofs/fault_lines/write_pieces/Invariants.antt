@@ -1,7 +1,7 @@
 -- The pieces so far were written, and no fault was counted.
 use Rattle.std.proofs.Common.{map}
-use Rattle.struct_core.proofs.Pieces.{HasWritten}
-use Rattle.struct_core.proofs.telling.write_pieces.Given as goal
+use Rattle.report.proofs.WrittenPieces.{HasWritten}
+use Rattle.report.proofs.fault_lines.write_pieces.Given as goal
 
 abbrev pub invariant-loop-piece : goal.invariant-loop-piece
 invariant-loop-piece g l =

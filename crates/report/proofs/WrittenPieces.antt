@@ -1,15 +1,18 @@
 -- Pieces that are written one after the other are one line; where a write fails a prefix of the line occurs.
-use Rattle.std.proofs.Common.{◌≡◌, ℕ, zero, suc, ◌+◌, ◌≤◌, ◌<◌, min, List, [], ◌∷◌, ◌++◌, length, take, drop, Option, Some, refl, sym, ap, ◌∙◌, subst, arith, append_assoc, map, get_or, Bor}
+use Rattle.std.proofs.Common.{◌≡◌, ℕ, zero, suc, ◌+◌, ◌≤◌, ◌<◌, min, List, [], ◌∷◌, ◌++◌, length, take, drop, Option, Some, sym, ap, ◌∙◌, subst, arith, append_assoc, map, get_or, Bor}
 use Rattle.std.proofs.Math.Seq.{take-append-add}
 use Rattle.std.proofs.lemmas.List.{append-nil}
 use Rattle.std.proofs.lemmas.List.{take-append-le}
 use Rattle.std.proofs.lemmas.Option.{same_Some, slice_get-map, slice_get-get_or}
-use Rattle.std.specs.Prelude.{slice_get, Result, Ok, Err, OnErr}
+use Rattle.std.specs.Prelude.{slice_get, Result, Ok, Err}
+use Rattle.std.specs.Result.{IsErr}
 use Rattle.std.specs.Option.{option_map}
 use Rattle.std.specs.Io.KnownBytes.{Appends}
 use Rattle.std.proofs.KnownBytes.{Appends-trans}
+use Rattle.pnml_source.specs.Causes.{Rose}
 use Rattle.pnml_source.specs.Streams.{AppendsFront}
-use Rattle.struct_core.specs.Lines.{joined}
+use Rattle.pnml_source.specs.Writing.{IsWritten}
+use Rattle.report.specs.FaultLines.{joined}
 
 take_least : (n : ℕ) (ys : List ℕ) → take n ys ≡ take (min n (length ys)) ys
 take_least zero ys = ap (λ k. take k ys) (let e : 0 ≡ min 0 (length ys) = omega arith in e)
@@ -70,7 +73,12 @@ piece_written pieces a b c before now later i piece at so_far more kept =
       kept = kept ∙ so_far.kept;
     }
 
--- what holds anyway holds of an error
-pub on_error : {T E : Type 0} (P : Type 0) (r : Result T E) → P → OnErr r P
-on_error P (Ok x) p = tt
-on_error P (Err e) p = p
+-- an error after a piece that failed
+pub stopped : {T E : Type 0} (old new : Option (List ℕ)) (before mid now : ℕ) (bytes : List ℕ) (result : Result T E) → IsErr result
+    → AppendsFront old new bytes → mid ≡ before → mid ≤ now → Rose mid now → IsWritten old new before now bytes result
+stopped old new before mid now bytes (Ok value) is front kept later rose = cc
+stopped old new before mid now bytes (Err error) is front kept later rose = record {
+  whole = tt;
+  cut = front;
+  cause = record { later = omega (arith, kept, later); failed = subst (λ n. Rose n now) kept rose; kept = tt };
+}

@@ -1,5 +1,5 @@
 -- The lines that tell why a run wrote no text. Each ends with a line feed; numbers are decimal.
-use Rattle.std.specs.Prelude.{◌≡◌, ℕ, List, [], ◌∷◌, codes, decimal}
+use Rattle.std.specs.Prelude.{ℕ, ◌+◌, List, [], ◌∷◌, codes, decimal}
 use Rattle.std.specs.List.{flat_map}
 use Rattle.page_flatten.specs.declared.fault.FlatFault.{FlatFault}
 use Rattle.page_flatten.specs.declared.fault.FlatFault.TheVariants as rules
@@ -35,11 +35,11 @@ reason_words (reasons.TooMany what) = counted_words what
 
 -- the input is no document; the number is an offset in it
 unfoldable pub offset_line : ℕ → List ℕ → List ℕ
-offset_line place words = joined (codes "document refused at " ∷ decimal place ∷ codes ": " ∷ words ∷ codes "\n" ∷ [])
+offset_line offset words = joined (codes "document refused at " ∷ decimal offset ∷ codes ": " ∷ words ∷ codes "\n" ∷ [])
 
 abbrev pub document_line : Fault → List ℕ
-document_line (not_utf8 place) = offset_line place (codes "not UTF-8")
-document_line (at place reason) = offset_line place (reason_words reason)
+document_line (not_utf8 offset) = offset_line offset (codes "not UTF-8")
+document_line (at offset reason) = offset_line offset (reason_words reason)
 document_line (truncated length) = offset_line length (codes "truncated")
 
 -- the document breaks a rule
@@ -49,7 +49,7 @@ id_line words id = joined (codes "document refused: " ∷ words ∷ codes " " �
 unfoldable pub unknown_line : List ℕ → List ℕ → List ℕ
 unknown_line id by = joined (codes "document refused: unknown id " ∷ id ∷ codes " in " ∷ by ∷ codes "\n" ∷ [])
 
-unfoldable pub memory_line : List ℕ
+abbrev pub memory_line : List ℕ
 memory_line = codes "out of memory\n"
 
 abbrev pub rule_line : FlatFault → List ℕ
@@ -70,6 +70,11 @@ wide_sum_line id = wide_line (codes "wide sum") id
 abbrev pub wide_row_line : List ℕ → List ℕ
 wide_row_line id = wide_line (codes "wide row") id
 
+-- the invariant of a semiflow is out of range; rows count from 0, the lines of the list from 1
+unfoldable pub wide_bound_line : ℕ → List ℕ
+wide_bound_line row = joined (codes "wide bound in semiflow " ∷ decimal (row + 1) ∷ codes "\n" ∷ [])
+
+-- an elimination has more candidates at the column of an id than the budget
 unfoldable pub budget_line : ℕ → List ℕ → ℕ → List ℕ
 budget_line budget id count =
     joined (codes "row budget " ∷ decimal budget ∷ codes " passed at " ∷ id ∷ codes ": " ∷ decimal count ∷ codes " candidates\n" ∷ [])
@@ -79,22 +84,14 @@ unfoldable pub limit_line : ℕ → List ℕ
 limit_line limit = joined (codes "set limit " ∷ decimal limit ∷ codes " passed\n" ∷ [])
 
 -- the words mean nothing, the input is too long, a device failed
-unfoldable pub usage_line : List ℕ
+abbrev pub usage_line : List ℕ
 usage_line = codes "usage: pnmlstruct TASK [--rows N] [--sets N], or pnmlstruct sample N\n"
 
-unfoldable pub length_line : List ℕ
+abbrev pub length_line : List ℕ
 length_line = codes "input too long\n"
 
-unfoldable pub read_line : List ℕ
+abbrev pub read_line : List ℕ
 read_line = codes "read fault\n"
 
-unfoldable pub write_line : List ℕ
+abbrev pub write_line : List ℕ
 write_line = codes "write fault\n"
-
--- the status and the line of a run without an outcome, and of one whose text wasn't written whole
-pub data OwnLine : ℕ → List ℕ → Type 0 where
-  usage : OwnLine 2 usage_line
-  too_long : OwnLine 7 length_line
-  read_fault : OwnLine 8 read_line
-  write_fault : OwnLine 9 write_line
-  no_memory : OwnLine 10 memory_line
