@@ -1,9 +1,9 @@
 -- A firing changes y.M by the difference of the two sums of y at the transition's column, which are equal for a
 -- semiflow. A product by itself is at most the sum.
-use Rattle.std.proofs.Common.{◌≡◌, ap, ◌∙◌, ℕ, zero, suc, ◌+◌, ◌*◌, ◌-◌, ◌<◌, ◌≤◌, [], ◌∷◌, arith, inl, inr}
+use Rattle.std.proofs.Common.{◌≡◌, ap, ◌∙◌, ℕ, zero, suc, ◌+◌, ◌*◌, ◌<◌, ◌≤◌, [], ◌∷◌, arith}
 use Rattle.net_values.specs.Net.{Net}
 use Rattle.net_values.specs.TokenGame.{IsEnabled, after}
-use Rattle.incidence.specs.Matrix.{incidence_of, gain_sum, loss_sum}
+use Rattle.incidence.specs.Matrix.{incidence_of, gain_sum, loss_sum, positive_at, negative_at}
 use Rattle.incidence.specs.Sums.{sum_below}
 use Rattle.incidence.specs.Invariance.{weighted_tokens, IsPlaceSemiflow, WeightedTokensStay, SemiflowsBoundPlaces}
 use Rattle.incidence.proofs.Below.{below_same, below_part}
@@ -18,7 +18,7 @@ exchanged (suc n) y new loss old gain each =
 
 kept : (net : Net) (y M : ℕ → ℕ) (t : ℕ) → IsPlaceSemiflow net y → t < net.transitions → IsEnabled net M t → weighted_tokens net y (after net M t) ≡ weighted_tokens net y M
 kept net y M t flow below enabled =
-    let moved = exchanged net.places y (after net M t) (λ p. net.pre p t - net.post p t) M (λ p. net.post p t - net.pre p t)
+    let moved = exchanged net.places y (after net M t) (λ p. negative_at (incidence_of net) p t) M (λ p. positive_at (incidence_of net) p t)
     (λ p under. let enough : net.pre p t ≤ M p = enabled p under in omega arith)
     in
     let balanced : gain_sum (incidence_of net) t y ≡ loss_sum (incidence_of net) t y = flow.balanced t below tt in

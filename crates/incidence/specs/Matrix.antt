@@ -1,6 +1,7 @@
--- A matrix of whole numbers, as two matrices of natural numbers: `gain i j` is the entry where it is
--- positive, else 0, and `loss i j` is the negated entry where it is negative, else 0. Rows and columns are
--- numbers below the two counts; what occurs past them doesn't count. A vector is a function of the row.
+-- A matrix of whole numbers, each entry written as a difference of two natural numbers, `gain i j` and
+-- `loss i j`. Only the difference counts, so it doesn't matter which of the many differences is written. Rows
+-- and columns are numbers below the two counts; what occurs past them doesn't count. A vector is a function of
+-- the row.
 use Rattle.std.specs.Prelude.{ℕ, ℤ, pos, ◌*◌, ◌-◌, ◌<◌, ◌^◌, ◌-ℤ◌}
 use Rattle.net_values.specs.Net.{Net}
 use Rattle.incidence.specs.Sums.{sum_below}
@@ -14,6 +15,13 @@ pub record Matrix : Type 0 where
 -- the entry as a whole number
 abbrev pub entry_of : Matrix → ℕ → ℕ → ℤ
 entry_of m i j = pos (m.gain i j) -ℤ pos (m.loss i j)
+
+-- an entry where it is positive, else 0, and the negated entry where that is negative, else 0
+abbrev pub positive_at : Matrix → ℕ → ℕ → ℕ
+positive_at m i j = m.gain i j - m.loss i j
+
+abbrev pub negative_at : Matrix → ℕ → ℕ → ℕ
+negative_at m i j = m.loss i j - m.gain i j
 
 -- rows and columns exchanged
 abbrev pub transposed : Matrix → Matrix
@@ -36,10 +44,10 @@ incidence_of net = record {
 
 -- the two sums of a vector at a column: over the positive entries, and over the negated negative ones
 abbrev pub gain_sum : Matrix → ℕ → (ℕ → ℕ) → ℕ
-gain_sum m j y = sum_below m.rows (λ i. y i * m.gain i j)
+gain_sum m j y = sum_below m.rows (λ i. y i * positive_at m i j)
 
 abbrev pub loss_sum : Matrix → ℕ → (ℕ → ℕ) → ℕ
-loss_sum m j y = sum_below m.rows (λ i. y i * m.loss i j)
+loss_sum m j y = sum_below m.rows (λ i. y i * negative_at m i j)
 
 -- neither of the two sums exceeds 2^127 - 1
 pub record AreNarrow (m : Matrix) (j : ℕ) (y : ℕ → ℕ) : Type 0 where

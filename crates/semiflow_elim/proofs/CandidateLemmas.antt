@@ -7,7 +7,7 @@ use Rattle.std.proofs.lemmas.Bool.{cases_lt}
 use Rattle.std.proofs.lemmas.List.{get_or_default}
 use Rattle.std.proofs.Math.Nat.{mul-dvd-mul_left, dvd_of_mul-dvd-mul_left, eq-one_of_dvd-one, eq_of_mul-eq-mul_left, mul-lt-mul_of_pos_left}
 use Rattle.support_prune.specs.Pools.{AreApart}
-use Rattle.incidence.specs.Matrix.{Matrix, gain_sum, loss_sum}
+use Rattle.incidence.specs.Matrix.{Matrix, gain_sum, loss_sum, positive_at, negative_at}
 use Rattle.incidence.specs.Semiflow.{IsWithin, IsNonzero, IsSemiflow, IsCoprime}
 use Rattle.semiflow_elim.specs.Bases.{IsBasis, HasBelow, IsGood}
 use Rattle.semiflow_elim.specs.Elimination.{row_of}
@@ -56,8 +56,8 @@ pair_semiflow m K K' c p r s x y a b more r_flow s_flow r_over s_under cancels p
     let product = product_positive x (r some.0) positive some.2 in
     let entry = entries some.0 some.1 in
     (some.0, some.1, omega arith))
-    (λ j q k. joined_old _ _ _ _ _ _ x y (weighted_join m.rows (λ i. m.gain i j) p r s x y entries) (weighted_join m.rows (λ i. m.loss i j) p r s x y entries) (r_flow.balanced j q k) (s_flow.balanced j q k))
-    (joined_new _ _ _ _ _ _ x y a b (weighted_join m.rows (λ i. m.gain i c) p r s x y entries) (weighted_join m.rows (λ i. m.loss i c) p r s x y entries) r_over s_under cancels)
+    (λ j q k. joined_old _ _ _ _ _ _ x y (weighted_join m.rows (λ i. positive_at m i j) p r s x y entries) (weighted_join m.rows (λ i. negative_at m i j) p r s x y entries) (r_flow.balanced j q k) (s_flow.balanced j q k))
+    (joined_new _ _ _ _ _ _ x y a b (weighted_join m.rows (λ i. positive_at m i c) p r s x y entries) (weighted_join m.rows (λ i. negative_at m i c) p r s x y entries) r_over s_under cancels)
 
 pub zero_factor : (h d : ℕ) → 0 < h * d → 0 < d
 zero_factor h zero some = absurd (omega arith)
@@ -73,7 +73,7 @@ divided_semiflow m K p d h positive entries flow = record {
       (some.0, some.1, zero_factor h (d some.0) (omega arith));
   balanced = λ j q k.
       eq_of_mul-eq-mul_left h positive _ _
-      (sym (weighted_scale m.rows (λ i. m.gain i j) p d h entries) ∙ flow.balanced j q k ∙ weighted_scale m.rows (λ i. m.loss i j) p d h entries);
+      (sym (weighted_scale m.rows (λ i. positive_at m i j) p d h entries) ∙ flow.balanced j q k ∙ weighted_scale m.rows (λ i. negative_at m i j) p d h entries);
 }
 
 -- by the greatest one: coprime
@@ -109,7 +109,7 @@ step_basis m K K' c rows pool column more basis good apart met = record {
   apart = apart;
   below = λ y flow.
       let old : IsSemiflow m K y = record { nonzero = flow.nonzero; balanced = λ j p k. flow.balanced j p (more.old j k) } in
-      elim (rows_below m K (IsRow rows) (basis_flat m K rows basis).covers (λ i. m.gain i c) (λ i. m.loss i c) y old (flow.balanced c column more.new)) [
+      elim (rows_below m K (IsRow rows) (basis_flat m K rows basis).covers (λ i. positive_at m i c) (λ i. negative_at m i c) y old (flow.balanced c column more.new)) [
         | inl zero_row ↦
             let row = zero_row.1 in
             let is = row_is rows zero_row.0 row in

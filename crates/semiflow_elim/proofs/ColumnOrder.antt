@@ -1,29 +1,23 @@
 -- The columns of a matrix may occur in any order: the sums of a vector at a column depend on the column's
 -- entries only, so matrices with the same columns have the same semiflows over all columns, and the same
 -- of minimal support.
-use Rattle.std.proofs.Common.{◌≡◌, refl, sym, ap, ◌∙◌, ℕ, zero, suc, ◌*◌, ◌<◌, List, slice_index, arith}
+use Rattle.std.proofs.Common.{◌≡◌, sym, ap, ◌∙◌, ℕ, ◌*◌, ◌<◌, List, slice_index, arith}
 use Rattle.std.specs.Cmp.Lexicographic.{slice_cmp}
 use Rattle.std.specs.Ordering.{nat_cmp}
 use Rattle.std.proofs.lemmas.Cmp.{nat_cmp_total, lists_total}
 use Rattle.net_values.specs.TheList.{IsTheList}
+use Rattle.net_values.proofs.OneList.{the_lists_same}
 use Rattle.incidence.specs.Sums.{sum_below}
-use Rattle.incidence.specs.Matrix.{Matrix}
+use Rattle.incidence.specs.Matrix.{Matrix, positive_at, negative_at}
 use Rattle.incidence.specs.Semiflow.{IsSemiflow, IsMinimal, all_columns}
 use Rattle.semiflow_elim.specs.Bases.{IsMinimalRow}
 use Rattle.semiflow_elim.specs.Laws.{HaveSameColumns}
-use Rattle.semiflow_elim.proofs.OneList.{the_lists_same}
-
-sum_same : (n : ℕ) (f g : ℕ → ℕ) → ((i : ℕ) → i < n → f i ≡ g i) → sum_below n f ≡ sum_below n g
-sum_same zero f g each = refl
-sum_same (suc n) f g each =
-    let rest = sum_same n f g (λ i under. each i (omega arith)) in
-    let last = each n (omega arith) in
-    omega (arith, rest, last)
+use Rattle.incidence.proofs.Below.{below_same}
 
 -- the weighted sums of two columns with the same entries
 weighted_same : (n k : ℕ) (y f g : ℕ → ℕ) → n ≡ k → ((i : ℕ) → i < n → f i ≡ g i) → sum_below n (λ i. y i * f i) ≡ sum_below k (λ i. y i * g i)
 weighted_same n k y f g size each =
-    sum_same n (λ i. y i * f i) (λ i. y i * g i) (λ i under. ap (λ z. y i * z) (each i under))
+    below_same n (λ i. y i * f i) (λ i. y i * g i) (λ i under. ap (λ z. y i * z) (each i under))
     ∙ ap (λ (r : ℕ). sum_below r (λ i. y i * g i)) size
 
 turned : (m n : Matrix) → HaveSameColumns m n → HaveSameColumns n m
@@ -34,9 +28,9 @@ semiflow_moved m n h y flow = record {
   nonzero = let some = flow.nonzero in let rows = h.rows in (some.0, omega (arith, rows, some.1), some.2);
   balanced = λ j under all.
       let column = h.forth j under in
-      weighted_same m.rows n.rows y (λ i. m.gain i j) (λ i. n.gain i column.0) h.rows (λ i below. (column.2 i below).0)
+      weighted_same m.rows n.rows y (λ i. positive_at m i j) (λ i. positive_at n i column.0) h.rows (λ i below. let same = column.2 i below in omega (arith, same.0, same.1))
       ∙ flow.balanced column.0 column.1 all
-      ∙ sym (weighted_same m.rows n.rows y (λ i. m.loss i j) (λ i. n.loss i column.0) h.rows (λ i below. (column.2 i below).1));
+      ∙ sym (weighted_same m.rows n.rows y (λ i. negative_at m i j) (λ i. negative_at n i column.0) h.rows (λ i below. let same = column.2 i below in omega (arith, same.0, same.1)));
 }
 
 minimal_moved : (m n : Matrix) → HaveSameColumns m n → (y : ℕ → ℕ) → IsMinimal n all_columns y → IsMinimal m all_columns y

@@ -11,5 +11,5 @@ pub mod Units
 pub mod Listed
 pub mod Generation
 pub mod Offers
-pub mod OneList
 pub mod ColumnOrder
+pub mod OneFailure

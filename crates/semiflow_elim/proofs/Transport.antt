@@ -5,7 +5,7 @@
 use Rattle.std.proofs.Common.{◌≡◌, ◌⊎◌, sym, ap, ℕ, zero, suc, ◌+◌, ◌*◌, ◌<◌, ◌≤◌, inl, inr, arith}
 use Rattle.std.proofs.lemmas.Bool.{cases_lt, cases_order}
 use Rattle.std.proofs.Math.Nat.{mul-le-mul_left, mul-lt-mul_of_pos_left}
-use Rattle.incidence.specs.Matrix.{Matrix}
+use Rattle.incidence.specs.Matrix.{Matrix, positive_at, negative_at}
 use Rattle.incidence.specs.Semiflow.{IsWithin, IsNonzero, IsSemiflow}
 use Rattle.semiflow_elim.proofs.Weighted.{weighted, weighted_split, some_entry}
 use Rattle.semiflow_elim.proofs.Support.{support_size, Reduced, reduced, reduced_size}
@@ -46,8 +46,8 @@ rest_semiflow m K y r d whole row some = record {
   nonzero = some;
   balanced = λ j p k.
       rest_balanced _ _ _ _ _ _ (r d.at) (y d.at)
-      (weighted_split m.rows (λ i. m.gain i j) d.rest r y (r d.at) (y d.at) d.splits)
-      (weighted_split m.rows (λ i. m.loss i j) d.rest r y (r d.at) (y d.at) d.splits)
+      (weighted_split m.rows (λ i. positive_at m i j) d.rest r y (r d.at) (y d.at) d.splits)
+      (weighted_split m.rows (λ i. negative_at m i j) d.rest r y (r d.at) (y d.at) d.splits)
       (row.balanced j p k) (whole.balanced j p k);
 }
 

@@ -60,9 +60,9 @@ pub record Passes (m : Matrix) (budget c : ℕ) (rows : List (List ℕ)) : Type 
   pub budget_met : candidate_count m c rows ≤ budget
   pub pairs : (i k : ℕ) → i < length rows → k < length rows → IsPair m c (row_of rows i) (row_of rows k) → IsNarrowPair m c (row_of rows i) (row_of rows k)
 
--- the failure of the step; out of memory is none of them
+-- the failure of the step; out of memory is no failure of it
 abbrev pub FailsBy : Matrix → ℕ → ℕ → List (List ℕ) → ElimFault → Type 0
-FailsBy m budget c rows NoMemory = Unit {0}
+FailsBy m budget c rows NoMemory = ⊥
 FailsBy m budget c rows (WideSum j) = (j ≡ c) × Any (λ row. AreNarrow m c (slice_index row) → ⊥) rows
 FailsBy m budget c rows (RowBudget j count) = (j ≡ c) × All (λ row. AreNarrow m c (slice_index row)) rows × (count ≡ candidate_count m c rows) × (budget < count)
 FailsBy m budget c rows (WideRow j) = (j ≡ c) × All (λ row. AreNarrow m c (slice_index row)) rows × (candidate_count m c rows ≤ budget)

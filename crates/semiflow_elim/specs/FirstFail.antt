@@ -23,7 +23,7 @@ pub record IsFirstFail (m : Matrix) (budget : ℕ) (fault : ElimFault) : Type 0 
   pub before : (j : ℕ) → j < column → StepPasses m budget j
   pub fails : StepFails m budget column fault
 
--- out of memory has no cause here
+-- what a call may answer: out of memory at any time, and else the first failure
 abbrev pub IsExplained : Matrix → ℕ → ElimFault → Type 0
 IsExplained m budget NoMemory = Unit {0}
 IsExplained m budget (WideSum j) = IsFirstFail m budget (WideSum j)

@@ -1,4 +1,4 @@
--- Laws of semiflows of minimal support.
+-- Laws of semiflows of minimal support and of their elimination.
 use Rattle.std.specs.Prelude.{◌≡◌, ℕ, ◌*◌, ◌<◌, Bool, List, IsTrue}
 use Rattle.std.specs.Cmp.Lexicographic.{slice_cmp}
 use Rattle.std.specs.Ordering.{nat_cmp}
@@ -7,6 +7,8 @@ use Rattle.incidence.specs.Matrix.{Matrix}
 use Rattle.incidence.specs.Semiflow.{IsWithin, IsSemiflow, IsMinimal, all_columns}
 use Rattle.semiflow_elim.specs.Bases.{IsBasis, AreMinimal, IsMinimalRow}
 use Rattle.semiflow_elim.specs.Generated.{IsGenerated}
+use Rattle.semiflow_elim.specs.FirstFail.{StepPasses, IsFirstFail}
+use Rattle.semiflow_elim.specs.declared.fault.ElimFault.{ElimFault}
 
 -- the columns at which a test gives true
 abbrev pub is_in : (ℕ → Bool) → ℕ → Type 0
@@ -42,3 +44,11 @@ pub record HaveSameColumns (m n : Matrix) : Type 0 where
 -- the list of the minimal semiflows doesn't depend on the order of the columns
 abbrev pub OrderIsFree : Type 0
 OrderIsFree = (m n : Matrix) (list other : List (List ℕ)) → HaveSameColumns m n → IsTheList (slice_cmp nat_cmp) (IsMinimalRow m all_columns) list → IsTheList (slice_cmp nat_cmp) (IsMinimalRow n all_columns) other → list ≡ other
+
+-- an elimination has at most one first failure
+abbrev pub FirstFailuresAreOne : Type 0
+FirstFailuresAreOne = (m : Matrix) (budget : ℕ) (fault other : ElimFault) → IsFirstFail m budget fault → IsFirstFail m budget other → fault ≡ other
+
+-- and none where every step passes
+abbrev pub FailuresExcludePassing : Type 0
+FailuresExcludePassing = (m : Matrix) (budget : ℕ) (fault : ElimFault) → IsFirstFail m budget fault → ((j : ℕ) → j < m.columns → StepPasses m budget j) → ⊥

@@ -1,8 +1,8 @@
 pub mod Generated
 pub mod Bases
-pub mod Laws
 pub mod Elimination
+pub mod FirstFail
+pub mod Laws
 pub mod Arithmetic
 pub mod Candidates
 pub mod Tableaus
-pub mod FirstFail

@@ -1,5 +1,6 @@
 ghost use Rattle.semiflow_elim.specs.Laws.{MinimalOnesAreProportional, BasesAreMinimal};
 ghost use Rattle.semiflow_elim.specs.Laws.{BasesGenerate, OrderIsFree};
+ghost use Rattle.semiflow_elim.specs.Laws.{FirstFailuresAreOne, FailuresExcludePassing};
 
 /// A semiflow whose support is in that of a semiflow of minimal support is proportional to it.
 pub fn minimal_ones_are_proportional()
@@ -21,4 +22,14 @@ pub fn bases_generate()
 /// matrices of which each has the other's columns.
 pub fn order_is_free()
     ensures { OrderIsFree }
+{}
+
+/// An elimination has at most one first failure, though the rows of a step may be taken in any order.
+pub fn first_failures_are_one()
+    ensures { FirstFailuresAreOne }
+{}
+
+/// Where every step of an elimination passes, none is the first that fails.
+pub fn failures_exclude_passing()
+    ensures { FailuresExcludePassing }
 {}

@@ -15,5 +15,8 @@ mod tests;
 
 pub use elimination::minimal_semiflows;
 pub use fault::ElimFault;
-pub use laws::{bases_are_minimal, bases_generate, minimal_ones_are_proportional, order_is_free};
+pub use laws::{
+    bases_are_minimal, bases_generate, failures_exclude_passing, first_failures_are_one,
+    minimal_ones_are_proportional, order_is_free,
+};
 pub use tableau::Tableau;

@@ -1,4 +1,4 @@
-ghost use Rattle.std.specs.Prelude.{◌≡◌, ℕ, ◌<◌, ◌^◌, ◌==◌};
+ghost use Rattle.std.specs.Prelude.{◌≡◌, ℕ, ◌<◌, ◌^◌, ◌==◌, ◌⊎◌};
 ghost use Rattle.std.specs.Prelude.{IfOk, IfErr, All, length, nat_lt, count_by};
 ghost use Rattle.incidence.specs.Tables.{matrix_of};
 ghost use Rattle.semiflow_elim.specs.Candidates.{AreSums, signs_total};
@@ -28,7 +28,7 @@ pub(crate) fn row_sums(
     ensures ok { IfOk result (λ sums.
         AreSums (matrix_of matrix.now) column rows.now sums.items (length rows.now)) }
     ensures fails { (budget : ℕ) →
-        IfErr result (FailsBy (matrix_of matrix.now) budget column rows.now) }
+        IfErr result (λ fault. (fault ≡ ElimFault.NoMemory) ⊎ FailsBy (matrix_of matrix.now) budget column rows.now fault) }
 {
     let mut sums = Vec::new(alloc);
     for row in rows {

@@ -1,4 +1,4 @@
-ghost use Rattle.std.specs.Prelude.{◌≡◌, ℕ, ◌+◌, ◌<◌, ◌≤◌, ◌^◌, IfOk, OnOk, OnErr, IfErr, length};
+ghost use Rattle.std.specs.Prelude.{◌≡◌, ℕ, ◌+◌, ◌<◌, ◌≤◌, ◌^◌, ◌⊎◌, IfOk, OnOk, OnErr, IfErr, length};
 ghost use Rattle.incidence.specs.Semiflow.{first_columns};
 ghost use Rattle.incidence.specs.Tables.{matrix_of};
 ghost use Rattle.semiflow_elim.specs.Bases.{IsBasis, AreMinimal, AreUnits};
@@ -70,8 +70,8 @@ impl<'m> Tableau<'m> {
         ensures passes { OnOk result
             (Passes (matrix_of self.old.tables) rows self.old.done self.old.rows) }
         ensures err { OnErr result (self.new ≡ self.old) }
-        ensures fails { IfErr result
-            (FailsBy (matrix_of self.old.tables) rows self.old.done self.old.rows) }
+        ensures fails { IfErr result (λ fault. (fault ≡ ElimFault.NoMemory) ⊎
+            FailsBy (matrix_of self.old.tables) rows self.old.done self.old.rows fault) }
     {
         let next = next_rows(
             self.alloc,
@@ -111,7 +111,8 @@ fn next_rows(
         IsBasis (matrix_of matrix.now) (first_columns (column + 1)) next) }
     ensures few { IfOk result (λ next. length next < 2 ^ 32) }
     ensures passes { OnOk result (Passes (matrix_of matrix.now) budget column rows.now) }
-    ensures fails { IfErr result (FailsBy (matrix_of matrix.now) budget column rows.now) }
+    ensures fails { IfErr result (λ fault. (fault ≡ ElimFault.NoMemory) ⊎
+        FailsBy (matrix_of matrix.now) budget column rows.now fault) }
 {
     let sums = row_sums(alloc, matrix, column, rows)?;
     let count = candidate_total(sums.as_slice());

@@ -42,11 +42,21 @@ fn has_answer(rt: &impl Abort, matrix: &Incidence, named: &NamedNet, alloc: Glob
 fn the_named_nets_have_these_minimal_semiflows(rt: HostRuntime) -> Result<(), Fail> {
     let alloc = rt.alloc();
     for named in &OF_PLACES {
-        let net = net_with(alloc, &[0; 5][..named.places], named.transitions, named.arcs)?;
+        let net = net_with(
+            alloc,
+            &[0; 5][..named.places],
+            named.transitions,
+            named.arcs,
+        )?;
         has_answer(&rt, &Incidence::of(alloc, &net)?, named, alloc);
     }
     for named in &OF_TRANSITIONS {
-        let net = net_with(alloc, &[0; 5][..named.places], named.transitions, named.arcs)?;
+        let net = net_with(
+            alloc,
+            &[0; 5][..named.places],
+            named.transitions,
+            named.arcs,
+        )?;
         let turned = Incidence::of(alloc, &net)?.transpose(alloc)?;
         has_answer(&rt, &turned, named, alloc);
     }

@@ -1,6 +1,6 @@
 -- What an offer leaves. Where a kept support is in that of the offered row, nothing changes. Otherwise the
 -- kept rows that aren't wider stay, the offered row comes in, and each row that went has it below.
-use Rattle.std.proofs.Common.{◌≡◌, ◌+◌, ◌<◌, ◌≤◌, refl, sym, ap, ◌∙◌, subst, ℕ, zero, suc, Bool, true, false, not, cond, List, [], ◌∷◌, ◌++◌, length, length-append, get_or, filter, take, All, Any, Contains, inl, inr, arith}
+use Rattle.std.proofs.Common.{◌≡◌, ◌+◌, ◌<◌, ◌≤◌, refl, sym, ap, ◌∙◌, subst, ℕ, zero, suc, Bool, true, false, not, cond, List, [], ◌∷◌, ◌++◌, ◌↔◌, length, length-append, get_or, filter, take, All, Any, Contains, inl, inr, arith}
 use Rattle.std.specs.List.{list_any}
 use Rattle.std.specs.Prelude.{◌⊎◌, ◌||◌}
 use Rattle.std.proofs.lemmas.Bool.{false≢true}
@@ -11,7 +11,7 @@ use Rattle.std.proofs.lemmas.List.Quantifiers.{all_pairs_push}
 use Rattle.std.proofs.lemmas.List.Sums.{length-filter, count_by-le-length}
 use Rattle.std.proofs.lemmas.List.Folds.{Any-from_list_any}
 use Rattle.support_prune.specs.Supports.{IsWithin, is_within}
-use Rattle.support_prune.specs.Pools.{AreApart, IsPool, HasWithin, Offered, row_at}
+use Rattle.support_prune.specs.Pools.{AreApart, IsPool, HasWithin, StaysAfter, Offered, row_at}
 use Rattle.support_prune.proofs.SupportLemmas.{within_true, within_false}
 
 any_of : {X : Type 0} (P : X → Type 0) (xs : List X) (x : X) → Contains xs x → P x → Any P xs
@@ -93,6 +93,36 @@ offered_new old new row pool alike none is =
       kept_below = below;
       offer_below = any_of (λ other. IsWithin other row) (kept ++ row ∷ []) row (Contains-push kept row) (λ i some. some);
     }
+
+-- no support in the offered one's is kept where the test finds none
+pub none_within : (old : List (List ℕ)) (row : List ℕ) → All (λ kept. length kept ≡ length row) old → list_any (λ other. is_within other row) old ≡ false → HasWithin old row → ⊥
+none_within old row alike none found =
+    let fails = none_passes (λ other. is_within other row) old none found.0 found.1 found.2 in
+    let here : get_or old found.0 found.1 ≡ found.1 = found.3 in
+    within_false (get_or old found.0 found.1) row (alike found.0 found.1 found.2) fails (subst (λ (x : List ℕ). IsWithin x row) (sym here) found.4)
+
+stays_by_test : (old : List (List ℕ)) (row x : List ℕ) (b : Bool) → is_within row x ≡ b → Contains old x → length row ≡ length x → (IsWithin row x → ⊥) → Contains (filter (λ other. not (is_within row other)) old ++ row ∷ []) x
+stays_by_test old row x true inside here same apart = absurd (apart (within_true row x same inside))
+stays_by_test old row x false outside here same apart =
+    Contains-append_left (filter (λ other. not (is_within row other)) old) (row ∷ []) x (Contains-passed (λ other. not (is_within row other)) old x here (ap not outside))
+
+-- which rows stay where the offered one comes in
+pub stays_exactly : (old new : List (List ℕ)) (row : List ℕ) → All (λ kept. length kept ≡ length row) old → new ≡ filter (λ other. not (is_within row other)) old ++ row ∷ [] → (x : List ℕ) → (Contains new x) ↔ StaysAfter old row x
+stays_exactly old new row alike is x =
+    let passes = λ (other : List ℕ). not (is_within row other) in
+    let kept = filter passes old in
+    let each : All (StaysAfter old row) (kept ++ row ∷ []) =
+    All-push (StaysAfter old row) kept row
+    (All-passed passes (StaysAfter old row) old (λ k d within passed. inl (Contains-get_or old k d within, within_false row (get_or old k d) (sym (alike k d within)) (not_true (is_within row (get_or old k d)) passed))))
+    (inr refl)
+    in
+    let size : (old_at : Contains old x) → length row ≡ length x = λ old_at. sym (ap length (sym old_at.2) ∙ alike old_at.0 x old_at.1) in (
+      λ here. let there = subst (λ (rows : List (List ℕ)). Contains rows x) is here in subst (StaysAfter old row) there.2 (each there.0 x there.1),
+      λ stays. subst (λ (rows : List (List ℕ)). Contains rows x) (sym is) (elim stays [
+        | inl in_old ↦ stays_by_test old row x (is_within row x) refl in_old.0 (size in_old.0) in_old.1
+        | inr offered ↦ subst (Contains (kept ++ row ∷ [])) (sym offered) (Contains-push kept row)
+      ]),
+    )
 
 -- the list that was sieved is the old one with the row after it
 pub sieve_of_push : (old : List (List ℕ)) (row : List ℕ) (pushed new : List (List ℕ)) (before : ℕ) → pushed ≡ old ++ row ∷ [] → before ≡ length old → new ≡ filter (λ other. not (is_within (row_at pushed before) other)) (take before pushed) ++ row_at pushed before ∷ [] → new ≡ filter (λ other. not (is_within row other)) old ++ row ∷ []

@@ -31,7 +31,12 @@ pub record IsMaskedPool (rows : List (List ℕ)) (masks : List ℕ) : Type 0 whe
 abbrev pub HasWithin : List (List ℕ) → List ℕ → Type 0
 HasWithin rows other = Any (λ row. IsWithin row other) rows
 
--- what an offer leaves: a pool of rows that were kept before or offered, with a support in that of each
+-- where no kept support is in the offered row's, the offered row stays, and each kept row whose support doesn't
+-- have the offered row's in it
+abbrev pub StaysAfter : List (List ℕ) → List ℕ → List ℕ → Type 0
+StaysAfter old offer row = (Contains old row × (IsWithin offer row → ⊥)) ⊎ (row ≡ offer)
+
+-- what follows for every offer: it leaves a pool of rows that were kept before or offered, with a support in that of each
 -- row that was kept before and in that of the offered one
 pub record Offered (old new : List (List ℕ)) (offer : List ℕ) : Type 0 where
   pub pool : IsPool new

@@ -9,4 +9,3 @@ mod support;
 mod tests;
 
 pub use pool::Pool;
-pub use support::is_within;

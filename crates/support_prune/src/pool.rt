@@ -1,8 +1,9 @@
-ghost use Rattle.std.specs.Prelude.{◌≡◌, [], ◌∷◌, ◌++◌, ◌+◌, ◌≤◌, not, OnOk, OnErr, All, length, filter, take};
+ghost use Rattle.std.specs.Prelude.{◌≡◌, ◌↔◌, [], ◌∷◌, ◌++◌, ◌+◌, ◌≤◌, ℕ, List};
+ghost use Rattle.std.specs.Prelude.{not, OnOk, OnErr, All, Contains, length, filter, take};
 ghost use Rattle.std.specs.List.{list_any};
 ghost use Rattle.support_prune.specs.Masks.{mask_of as mask_in_words, masks_of};
 ghost use Rattle.support_prune.specs.Supports.{is_within as within_test};
-ghost use Rattle.support_prune.specs.Pools.{IsPool, Offered, row_at};
+ghost use Rattle.support_prune.specs.Pools.{IsPool, HasWithin, StaysAfter, Offered, row_at};
 
 use crate::mask::{is_within_masked, mask_of};
 use net_values::{NoMemory, Rows, Vector};
@@ -44,6 +45,8 @@ impl Pool {
     /// A refusal leaves the pool unchanged and drops the row.
     pub fn offer(&mut self, row: Vector) -> Result<(), NoMemory>
         requires { All (λ kept. length kept ≡ length row) self.old }
+        ensures drops { OnOk result (HasWithin self.old row → self.new ≡ self.old) }
+        ensures keeps { OnOk result ((HasWithin self.old row → ⊥) → (x : List ℕ) → (Contains self.new x) ↔ StaysAfter self.old row x) }
         ensures ok { OnOk result (Offered self.old self.new row) }
         ensures count { OnOk result (length self.new ≤ length self.old + 1) }
         ensures err { OnErr result (self.new ≡ self.old) }

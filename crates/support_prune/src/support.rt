@@ -4,7 +4,7 @@ ghost use Rattle.support_prune.specs.Supports.{is_within as within_test};
 use net_values::Vector;
 
 /// Whether the support of a vector is a subset of the support of another, of the same length.
-pub fn is_within(row: &Vector, other: &Vector) -> bool
+pub(crate) fn is_within(row: &Vector, other: &Vector) -> bool
     ensures { result ≡ within_test row.now other.now }
 {
     row.as_slice()

@@ -1,4 +1,4 @@
-use Rattle.std.proofs.Common.{◌≡◌, sym, ◌∙◌, subst, ℕ, ◌+◌, ◌<◌, List, inl, inr, arith}
+use Rattle.std.proofs.Common.{◌≡◌, sym, ◌∙◌, subst, ℕ, ◌+◌, ◌<◌, ◌⊎◌, List, inl, inr, arith}
 use Rattle.std.proofs.lemmas.Bool.{cases_lt}
 use Rattle.std.proofs.lemmas.Result.{err_from_is_err_and}
 use Rattle.incidence.specs.Matrix.{Matrix}
@@ -14,11 +14,14 @@ use Rattle.semiflow_elim.proofs.Generation.{sorted_generates}
 use Rattle.semiflow_elim.proofs.elimination.minimal_semiflows.Goals as goal
 
 -- a failing step after steps that pass is the first failure
-explained : (m : Matrix) (budget column : ℕ) (rows : List (List ℕ)) (fault : ElimFault) → column < m.columns → ((j : ℕ) → j < column → StepPasses m budget j) → AreMinimal m (first_columns column) rows → FailsBy m budget column rows fault → IsExplained m budget fault
+explained : (m : Matrix) (budget column : ℕ) (rows : List (List ℕ)) (fault : ElimFault) → column < m.columns → ((j : ℕ) → j < column → StepPasses m budget j) → AreMinimal m (first_columns column) rows → (fault ≡ NoMemory) ⊎ FailsBy m budget column rows fault → IsExplained m budget fault
 explained m budget column rows NoMemory within before minimal fails = tt
-explained m budget column rows (WideSum j) within before minimal fails = record { column = column; within = within; before = before; fails = (rows, minimal, fails) }
-explained m budget column rows (RowBudget j count) within before minimal fails = record { column = column; within = within; before = before; fails = (rows, minimal, fails) }
-explained m budget column rows (WideRow j) within before minimal fails = record { column = column; within = within; before = before; fails = (rows, minimal, fails) }
+explained m budget column rows (WideSum j) within before minimal (inl none) = absurd (cc)
+explained m budget column rows (WideSum j) within before minimal (inr fails) = record { column = column; within = within; before = before; fails = (rows, minimal, fails) }
+explained m budget column rows (RowBudget j count) within before minimal (inl none) = absurd (cc)
+explained m budget column rows (RowBudget j count) within before minimal (inr fails) = record { column = column; within = within; before = before; fails = (rows, minimal, fails) }
+explained m budget column rows (WideRow j) within before minimal (inl none) = absurd (cc)
+explained m budget column rows (WideRow j) within before minimal (inr fails) = record { column = column; within = within; before = before; fails = (rows, minimal, fails) }
 
 more_pass : (m : Matrix) (budget done next : ℕ) → next ≡ done + 1 → ((j : ℕ) → j < done → StepPasses m budget j) → StepPasses m budget done → (j : ℕ) → j < next → StepPasses m budget j
 more_pass m budget done next is before now j under =
@@ -52,7 +55,7 @@ returns-in_err-step-clause-fails c =
     let budget = c.args.rows in
     let p = err_from_is_err_and c.from_residual.result c.from_residual.ensures.1 in
     let M : Tables → Type 0 = λ tables. AreMinimal (matrix_of tables) (first_columns t.done) t.rows in
-    let F : Tables → Type 0 = λ tables. FailsBy (matrix_of tables) budget t.done t.rows c.in_err-step.field-0.0 in
+    let F : Tables → Type 0 = λ tables. (c.in_err-step.field-0.0 ≡ NoMemory) ⊎ FailsBy (matrix_of tables) budget t.done t.rows c.in_err-step.field-0.0 in
     let same = c.loop-tableau.invariant.same in
     rw (p.1, p.2)
     (explained (matrix_of c.args.matrix.now) budget t.done t.rows c.in_err-step.field-0.0 (omega (arith, c.done.ensures.value, c.columns.ensures.value)) c.loop-tableau.invariant.passes

@@ -1,4 +1,4 @@
-use Rattle.std.proofs.Common.{refl, sym, ap, ◌∙◌, subst, ◌+◌, arith}
+use Rattle.std.proofs.Common.{refl, sym, ap, ◌∙◌, subst, ◌+◌, inr, arith}
 use Rattle.std.proofs.lemmas.Result.{err_from_is_err_and}
 use Rattle.incidence.specs.Semiflow.{first_columns}
 use Rattle.incidence.specs.Tables.{matrix_of}
@@ -14,7 +14,8 @@ returns-in_err-sums-clause-fails c =
 
 pub returns-then-count-from-clause-fails : goal.returns-then-count-from-clause-fails
 returns-then-count-from-clause-fails c =
-    let m = matrix_of c.args.matrix.now in (
+    let m = matrix_of c.args.matrix.now in
+    inr (
       refl,
       all_narrow m c.args.column c.args.rows.now c.in_ok-sums.sums.items c.in_ok-sums.ensures.ok,
       c.candidate_total-count.ensures ∙ ap signs_total c.as_slice.ensures.value ∙ total_is m c.args.column c.args.rows.now c.in_ok-sums.sums.items c.in_ok-sums.ensures.ok,
@@ -41,4 +42,4 @@ pub returns-in-Err-Wide-clause-fails : goal.returns-in-Err-Wide-clause-fails
 returns-in-Err-Wide-clause-fails c =
     let m = matrix_of c.args.matrix.now in
     let count = c.candidate_total-count.ensures ∙ ap signs_total c.as_slice.ensures.value ∙ total_is m c.args.column c.args.rows.now c.in_ok-sums.sums.items c.in_ok-sums.ensures.ok in
-    (refl, all_narrow m c.args.column c.args.rows.now c.in_ok-sums.sums.items c.in_ok-sums.ensures.ok, omega (arith, count), c.in-Err-Wide.ensures.wide c.in-Err-Wide.field-0-is)
+    inr (refl, all_narrow m c.args.column c.args.rows.now c.in_ok-sums.sums.items c.in_ok-sums.ensures.ok, omega (arith, count), c.in-Err-Wide.ensures.wide c.in-Err-Wide.field-0-is)
