@@ -1,13 +1,14 @@
 -- Every nonempty siphon contains a listed one. If it contains none, then no smaller nonempty siphon in it
 -- does; so by induction on the number of places there is no smaller one, and it is minimal and listed.
 use Rattle.std.proofs.Common.{◌≡◌, refl, sym, ap, ◌∙◌, ℕ, zero, suc, ◌<◌, ◌&&◌, List, [], ◌∷◌, Bool, IsTrue, not, length, Contains, inl, inr, arith}
+use Rattle.std.proofs.lemmas.Bool.{and_from, and_parts, both_ways, cases_Bool, not-true, not_from_false}
 use Rattle.std.specs.List.{list_any}
 use Rattle.std.proofs.lemmas.List.Folds.{Any-from_list_any, list_any_at}
 use Rattle.net_values.specs.Net.{Net}
 use Rattle.net_values.specs.PlaceSets.{has}
 use Rattle.closed_sets.specs.ClosedSets.{any_below, IsSiphon, IsWithin, IsNonempty, IsMinimalSiphon}
 use Rattle.closed_sets.specs.MinimalSets.{IsMinimalSet, MinimalSetsCover}
-use Rattle.closed_sets.proofs.Below.{cases_bool, apart, both, both_left, both_right, not_true, not_false, any_at, any_from, pair_at, pair_from}
+use Rattle.closed_sets.proofs.Below.{any_at, any_from, pair_at, pair_from}
 use Rattle.closed_sets.proofs.Outside.{outside, outside_lt}
 
 -- the list of the truth values of a set
@@ -44,18 +45,18 @@ lies_in n S list = not (any_below n (λ p. has list p && not (S p)))
 
 lies_within : (net : Net) (S : ℕ → Bool) (list : List Bool) → IsTrue (lies_in net.places S list) → IsWithin net (has list) S
 lies_within net S list inside p below member =
-    elim (cases_bool (S p)) [
+    elim (cases_Bool (S p)) [
       | inl holds ↦ holds
-      | inr fails ↦ absurd (apart _ (any_at net.places (λ q. has list q && not (S q)) p below (both (has list p) (not (S p)) member (not_true (S p) fails))) (not_false _ inside))
+      | inr fails ↦ absurd (both_ways _ (not-true _ inside) (any_at net.places (λ q. has list q && not (S q)) p below (and_from (has list p) (not (S p)) member (not_from_false (S p) fails))))
     ]
 
 within_lies : (net : Net) (S : ℕ → Bool) (list : List Bool) → IsWithin net (has list) S → IsTrue (lies_in net.places S list)
 within_lies net S list within =
-    elim (cases_bool (any_below net.places (λ q. has list q && not (S q)))) [
+    elim (cases_Bool (any_below net.places (λ q. has list q && not (S q)))) [
       | inl some ↦
           let at = any_from net.places (λ q. has list q && not (S q)) some in
-          absurd (apart (S at.0) (within at.0 at.1 (both_left (has list at.0) (not (S at.0)) at.2)) (not_false (S at.0) (both_right (has list at.0) (not (S at.0)) at.2)))
-      | inr none ↦ not_true _ none
+          absurd (both_ways (S at.0) (not-true (S at.0) (and_parts (has list at.0) (not (S at.0)) at.2).1) (within at.0 at.1 (and_parts (has list at.0) (not (S at.0)) at.2).0))
+      | inr none ↦ not_from_false _ none
     ]
 
 module _ (net : Net) (list : List (List Bool)) (listed : (set : List Bool) → IsMinimalSet net set → Contains list set) where
@@ -65,15 +66,15 @@ module _ (net : Net) (list : List (List Bool)) (listed : (set : List Bool) → I
       let minimal : IsMinimalSiphon net S = record {
         siphon = siphon;
         nonempty = some;
-        least = λ R siphon' some' within p below member. elim (cases_bool (R p)) [
+        least = λ R siphon' some' within p below member. elim (cases_Bool (R p)) [
           | inl holds ↦ holds
           | inr fails ↦ absurd (none_uncovered steps R
               (omega (
                 arith,
-                outside_lt net.places (λ q. not (S q)) (λ q. not (R q)) p (λ q here out. not_true (R q) (elim (cases_bool (R q)) [
-                  | inl inside ↦ absurd (apart (S q) (within q here inside) (not_false (S q) out))
+                outside_lt net.places (λ q. not (S q)) (λ q. not (R q)) p (λ q here out. not_from_false (R q) (elim (cases_Bool (R q)) [
+                  | inl inside ↦ absurd (both_ways (S q) (not-true (S q) out) (within q here inside))
                   | inr none' ↦ none'
-                ])) below (ap not member) (not_true (R p) fails),
+                ])) below (ap not member) (not_from_false (R p) fails),
               )) siphon' some'
               (λ set there inside. none set there (λ q here member'. within q here (inside q here member'))))
         ];
@@ -83,8 +84,8 @@ module _ (net : Net) (list : List (List Bool)) (listed : (set : List Bool) → I
 
 pub covers : (net : Net) → MinimalSetsCover net
 covers net list the S siphon some =
-    elim (cases_bool (list_any (lies_in net.places S) list)) [
+    elim (cases_Bool (list_any (lies_in net.places S) list)) [
       | inl found ↦ let at = Any-from_list_any (lies_in net.places S) list found in (at.0, at.1, at.2, at.3, lies_within net S at.1 at.4)
       | inr none ↦ absurd (none_uncovered net list (λ set minimal. (the.members set).1 minimal) (suc (outside net.places (λ p. not (S p)))) S (omega arith) siphon some
-          (λ set there within. apart _ (list_any_at (lies_in net.places S) list there.0 set there.1 (ap (lies_in net.places S) there.2 ∙ within_lies net S set within)) none))
+          (λ set there within. both_ways _ none (list_any_at (lies_in net.places S) list there.0 set there.1 (ap (lies_in net.places S) there.2 ∙ within_lies net S set within))))
     ]

@@ -4,12 +4,12 @@
 -- tokens than it takes, which in an ordinary net is empty; so the empty places are a siphon, and no trap in
 -- it is marked.
 use Rattle.std.proofs.Common.{◌≡◌, ◌∙◌, ℕ, ◌<◌, [], ◌∷◌, Bool, ltb, inl, inr, arith}
-use Rattle.std.proofs.lemmas.Bool.{cases_lt, ltb-true, ltb-false, eq-eqb, eqb-true}
+use Rattle.std.proofs.lemmas.Bool.{cases_lt, ltb-true, ltb-false, eq-eqb, eqb-true, cases_Bool}
 use Rattle.net_values.specs.Net.{Net}
 use Rattle.net_values.specs.TokenGame.{IsEnabled, after}
 use Rattle.closed_sets.specs.ClosedSets.{any_below, IsSiphon, IsTrap}
 use Rattle.closed_sets.specs.Commoner.{IsMarked, IsUnmarked, empty_places, EmptySiphonsStayEmpty, TrapsStayMarked, DeadEmptiesASiphon, CommonerExcludesDead}
-use Rattle.closed_sets.proofs.Below.{cases_bool, any_at, any_from, none_at, pair_at, pair_from}
+use Rattle.closed_sets.proofs.Below.{any_at, any_from, none_at, pair_at, pair_from}
 
 siphon_kept : (net : Net) (S : ℕ → Bool) (M : ℕ → ℕ) (t : ℕ) → IsSiphon net S → t < net.transitions → IsEnabled net M t → IsUnmarked net M S → IsUnmarked net (after net M t) S
 siphon_kept net S M t siphon below enabled empty p here member =
@@ -45,7 +45,7 @@ trap_along net S M M' (t ∷ ts) trap marked reached =
 -- a transition that isn't enabled has an input place with fewer tokens than it takes
 lacking : (net : Net) (M : ℕ → ℕ) (t : ℕ) → (IsEnabled net M t → ⊥) → (p : ℕ) × (p < net.places) × (M p < net.pre p t)
 lacking net M t disabled =
-    elim (cases_bool (any_below net.places (λ p. ltb (M p) (net.pre p t)))) [
+    elim (cases_Bool (any_below net.places (λ p. ltb (M p) (net.pre p t)))) [
       | inl some ↦ let found = any_from net.places (λ p. ltb (M p) (net.pre p t)) some in (found.0, found.1, ltb-true (M found.0) (net.pre found.0 t) found.2)
       | inr none ↦ absurd (disabled (λ p below. ltb-false (M p) (net.pre p t) (none_at net.places (λ p. ltb (M p) (net.pre p t)) none p below)))
     ]

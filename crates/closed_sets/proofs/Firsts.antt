@@ -1,8 +1,7 @@
 -- The lowest number below a bound that passes a test: there is one or none passes, and it is one.
 use Rattle.std.proofs.Common.{◌≡◌, sym, subst, ℕ, zero, suc, ◌<◌, ◌⊎◌, Bool, false, inl, inr, arith}
-use Rattle.std.proofs.lemmas.Bool.{cases_lt, cases_eq}
+use Rattle.std.proofs.lemmas.Bool.{cases_lt, cases_eq, both_ways, cases_Bool}
 use Rattle.closed_sets.specs.Growth.{IsFirst}
-use Rattle.closed_sets.proofs.Below.{cases_bool, apart}
 
 -- the lowest number that passes, or none does
 pub first_of : (n : ℕ) (test : ℕ → Bool) → ((k : ℕ) × IsFirst n test k) ⊎ ((k : ℕ) → k < n → test k ≡ false)
@@ -10,7 +9,7 @@ first_of zero test = inr (λ k below. absurd (omega arith))
 first_of (suc n) test =
     elim (first_of n test) [
       | inl found ↦ inl (found.0, record { below = omega (arith, found.1.below); passes = found.1.passes; before = found.1.before })
-      | inr none ↦ elim (cases_bool (test n)) [
+      | inr none ↦ elim (cases_Bool (test n)) [
         | inl passes ↦ inl (n, record { below = omega arith; passes = passes; before = none })
         | inr fails ↦ inr (λ k below. elim (cases_eq k n) [
           | inl same ↦ subst (λ (m : ℕ). test m ≡ false) (sym same) fails
@@ -22,9 +21,9 @@ first_of (suc n) test =
 pub first_same : (n : ℕ) (test : ℕ → Bool) (a b : ℕ) → IsFirst n test a → IsFirst n test b → a ≡ b
 first_same n test a b one other =
     elim (cases_lt a b) [
-      | inl below ↦ absurd (apart (test a) one.passes (other.before a below))
+      | inl below ↦ absurd (both_ways (test a) (other.before a below) one.passes)
       | inr above ↦ elim (cases_lt b a) [
-        | inl below ↦ absurd (apart (test b) other.passes (one.before b below))
+        | inl below ↦ absurd (both_ways (test b) (one.before b below) other.passes)
         | inr equal ↦ omega arith
       ]
     ]

@@ -4,7 +4,7 @@
 use Rattle.std.proofs.Common.{◌≡◌, refl, sym, ap, ◌∙◌, subst, ℕ, ◌+◌, zero, suc, ◌<◌, ◌≤◌, ◌==◌, ◌&&◌, List, [], ◌∷◌, Bool, true, false, IsTrue, MatchBool, MatchOption, Option, None, Some, is_some, ◌↔◌, length, get_or, not, ltb, cond, inl, inr, arith}
 use Rattle.std.specs.List.{list_any}
 use Rattle.std.proofs.Math.Bool.{and-false}
-use Rattle.std.proofs.lemmas.Bool.{cases_eq, true≢false, false≢true, eq-eqb, eqb-true}
+use Rattle.std.proofs.lemmas.Bool.{cases_eq, true≢false, false≢true, eq-eqb, eqb-true, and_from, and_parts, both_ways, cases_Bool, not-true, not_from_false}
 use Rattle.std.proofs.lemmas.List.Sums.{sum_by-cons}
 use Rattle.std.proofs.lemmas.List.Folds.{Any-from_list_any, list_any-from_Any}
 use Rattle.net_values.specs.declared.column.WeightedPlace.{WeightedPlace}
@@ -14,7 +14,7 @@ use Rattle.net_values.specs.PlaceSets.{has}
 use Rattle.closed_sets.specs.ClosedSets.{any_below, has_input_in, has_output_in, IsSiphon, IsGreatestSiphon}
 use Rattle.closed_sets.specs.Growth.{is_open, IsFirst}
 use Rattle.closed_sets.specs.Passes.{Shrinks, IsFewer, IsSettled, IsSettledAt, members}
-use Rattle.closed_sets.proofs.Below.{cases_bool, apart, same_bools, both, both_left, both_right, not_true, not_false, pair_at, pair_from}
+use Rattle.closed_sets.proofs.Below.{same_bools, pair_at, pair_from}
 
 -- whether an entry's place is in the set, read off the matrix
 pub meets_is : (n : ℕ) (w : ℕ → ℕ) (entries : List WeightedPlace) (S : ℕ → Bool) → Lists n w entries → list_any (λ entry. S entry.place) entries ≡ any_below n (λ p. S p && ltb 0 (w p))
@@ -57,17 +57,17 @@ shrinks_on net S R U first then = record {
 -- what is left where the output places of an open transition are taken out
 pub taken_out : (net : Net) (entries : List WeightedPlace) (old new : ℕ → Bool) (t : ℕ) → t < net.transitions → Lists net.places (λ p. net.post p t) entries → IsTrue (is_open net old t) → ((p : ℕ) → new p ≡ (old p && not (list_any (λ entry. entry.place == p) entries))) → Shrinks net old new
 taken_out net entries old new t below h opens left = record {
-  within = λ p here member. both_left (old p) _ (sym (left p) ∙ member);
+  within = λ p here member. (and_parts (old p) _ (sym (left p) ∙ member)).0;
   keeps = λ S siphon within p here member.
       let unlisted : list_any (λ entry. entry.place == p) entries ≡ false =
-      elim (cases_bool (list_any (λ entry. entry.place == p) entries)) [
+      elim (cases_Bool (list_any (λ entry. entry.place == p) entries)) [
         | inl listed ↦
             let gives = pair_at net.places S (λ q. net.post q t) p here member (listed_weighs net.places (λ q. net.post q t) entries p h listed) in
             let takes = pair_from net.places S (λ q. net.pre q t) (siphon t below gives) in
-            absurd (apart (has_input_in net old t) (pair_at net.places old (λ q. net.pre q t) takes.0 takes.1 (within takes.0 takes.1 takes.2) takes.3) (not_false (has_input_in net old t) (both_right (has_output_in net old t) _ opens)))
+            absurd (both_ways (has_input_in net old t) (not-true (has_input_in net old t) (and_parts (has_output_in net old t) _ opens).1) (pair_at net.places old (λ q. net.pre q t) takes.0 takes.1 (within takes.0 takes.1 takes.2) takes.3))
         | inr none ↦ none
       ] in
-      left p ∙ both (old p) _ (within p here member) (not_true _ unlisted);
+      left p ∙ and_from (old p) _ (within p here member) (not_from_false _ unlisted);
 }
 
 members-cons : (b : Bool) (set : List Bool) → members (b ∷ set) ≡ cond b 1 0 + members set
@@ -101,24 +101,24 @@ fewer (b ∷ old) (c ∷ new) (suc p) size within member out =
 -- where an open transition's output places are taken out, one of them was there
 pub taken_fewer : (net : Net) (entries : List WeightedPlace) (old new : List Bool) (t : ℕ) → Lists net.places (λ p. net.post p t) entries → length new ≡ length old → IsTrue (is_open net (has old) t) → ((p : ℕ) → has new p ≡ (has old p && not (list_any (λ entry. entry.place == p) entries))) → IsFewer old new
 taken_fewer net entries old new t h size opens left =
-    let gives = pair_from net.places (has old) (λ p. net.post p t) (both_left (has_output_in net (has old) t) _ opens) in
+    let gives = pair_from net.places (has old) (λ p. net.post p t) (and_parts (has_output_in net (has old) t) _ opens).0 in
     let listed = weighs_listed net.places (λ p. net.post p t) entries gives.0 h gives.3 in
-    fewer old new gives.0 size (λ q member. both_left (has old q) _ (sym (left q) ∙ member)) gives.2
+    fewer old new gives.0 size (λ q member. (and_parts (has old q) _ (sym (left q) ∙ member)).0) gives.2
     (left gives.0 ∙ rw (listed) (and-false (has old gives.0)))
 
 -- where no transition is open the set is a siphon
 pub siphon_from_closed : (net : Net) (S : ℕ → Bool) → ((t : ℕ) → t < net.transitions → is_open net S t ≡ false) → IsSiphon net S
 siphon_from_closed net S closed t below gives =
-    elim (cases_bool (has_input_in net S t)) [
+    elim (cases_Bool (has_input_in net S t)) [
       | inl takes ↦ takes
-      | inr none ↦ absurd (apart _ (both _ (not (has_input_in net S t)) gives (not_true _ none)) (closed t below))
+      | inr none ↦ absurd (both_ways _ (closed t below) (and_from _ (not (has_input_in net S t)) gives (not_from_false _ none)))
     ]
 
 -- a siphon has no open transition
 pub closed_from_siphon : (net : Net) (S : ℕ → Bool) → IsSiphon net S → (t : ℕ) → t < net.transitions → is_open net S t ≡ false
 closed_from_siphon net S siphon t below =
-    elim (cases_bool (is_open net S t)) [
-      | inl opens ↦ absurd (apart _ (siphon t below (both_left (has_output_in net S t) _ opens)) (not_false _ (both_right (has_output_in net S t) _ opens)))
+    elim (cases_Bool (is_open net S t)) [
+      | inl opens ↦ absurd (both_ways _ (not-true _ (and_parts (has_output_in net S t) _ opens).1) (siphon t below (and_parts (has_output_in net S t) _ opens).0))
       | inr none ↦ none
     ]
 
@@ -195,4 +195,4 @@ none_open net S None true siphon is = (λ _. siphon, λ _. refl)
 none_open net S None false siphon is = absurd (false≢true is)
 none_open net S (Some t) true opens is = absurd (true≢false is)
 none_open net S (Some t) false opens is =
-    (λ never. absurd (false≢true never), λ siphon. absurd (apart _ opens.passes (closed_from_siphon net S siphon t opens.below)))
+    (λ never. absurd (false≢true never), λ siphon. absurd (both_ways _ (closed_from_siphon net S siphon t opens.below) opens.passes))

@@ -1,17 +1,17 @@
 -- A smaller nonempty siphon in a set lacks one of its places, and then lies in the greatest siphon of the
 -- set without that place. So a nonempty siphon is minimal exactly where each of these is empty.
 use Rattle.std.proofs.Common.{◌≡◌, ◌≢◌, ◌↔◌, sym, subst, ◌∙◌, ℕ, ◌<◌, List, Bool, false, IsTrue, length, set, not, inl, inr, arith}
-use Rattle.std.proofs.lemmas.Bool.{cases_lt, cases_eq}
+use Rattle.std.proofs.lemmas.Bool.{cases_lt, cases_eq, both_ways, cases_Bool, not-true, not_from_false}
 use Rattle.std.proofs.lemmas.List.{get_or_past, get_or-set_same, get_or-set_other}
 use Rattle.net_values.specs.Net.{Net}
 use Rattle.net_values.specs.PlaceSets.{has, IsEmpty}
 use Rattle.closed_sets.specs.ClosedSets.{any_below, IsSiphon, IsWithin, IsNonempty, IsGreatestSiphon, IsMinimalSiphon, HasSiphonWithout}
-use Rattle.closed_sets.proofs.Below.{cases_bool, apart, not_true, not_false, any_from, none_at}
+use Rattle.closed_sets.proofs.Below.{any_from, none_at}
 
 -- a set that isn't empty has a place
 pub nonempty_from : (net : Net) (members : List Bool) → length members ≡ net.places → (IsEmpty members → ⊥) → IsNonempty net (has members)
 nonempty_from net members size some =
-    elim (cases_bool (any_below net.places (has members))) [
+    elim (cases_Bool (any_below net.places (has members))) [
       | inl found ↦ found
       | inr none ↦ absurd (some (λ p. elim (cases_lt p net.places) [
         | inl below ↦ none_at net.places (has members) none p below
@@ -20,7 +20,7 @@ nonempty_from net members size some =
     ]
 
 pub nonempty_not : (net : Net) (S : ℕ → Bool) → ((p : ℕ) → S p ≡ false) → IsNonempty net S → ⊥
-nonempty_not net S empty some = let at = any_from net.places S some in apart (S at.0) at.2 (empty at.0)
+nonempty_not net S empty some = let at = any_from net.places S some in both_ways (S at.0) (empty at.0) at.2
 
 module _ (net : Net) (members : List Bool) (p : ℕ) (size : length members ≡ net.places) (below : p < net.places) where
   abbrev rest : ℕ → Bool
@@ -37,23 +37,23 @@ module _ (net : Net) (members : List Bool) (p : ℕ) (size : length members ≡ 
     λ filled. (
       has found,
       greatest.siphon,
-      nonempty_from net found size' (λ none. apart empty (decides.1 none) (not_false empty filled)),
+      nonempty_from net found size' (λ none. both_ways empty (not-true empty filled) (decides.1 none)),
       λ q here member. elim (cases_eq q p) [
-        | inl same ↦ absurd (apart (rest p) (subst (λ x. IsTrue (rest x)) same (greatest.within q here member)) left_out)
+        | inl same ↦ absurd (both_ways (rest p) left_out (subst (λ x. IsTrue (rest x)) same (greatest.within q here member)))
         | inr other ↦ sym (kept q other) ∙ greatest.within q here member
       ],
-      not_true (has found p) (elim (cases_bool (has found p)) [ inl member ↦ absurd (apart (rest p) (greatest.within p below member) left_out) | inr none ↦ none ]),
+      not_from_false (has found p) (elim (cases_Bool (has found p)) [ inl member ↦ absurd (both_ways (rest p) left_out (greatest.within p below member)) | inr none ↦ none ]),
     ),
     λ smaller.
         let R = smaller.0 in
         let inside : IsWithin net R rest =
         λ q here member. elim (cases_eq q p) [
-          | inl same ↦ absurd (apart (R p) (subst (λ x. IsTrue (R x)) same member) (not_false (R p) smaller.4))
+          | inl same ↦ absurd (both_ways (R p) (not-true (R p) smaller.4) (subst (λ x. IsTrue (R x)) same member))
           | inr other ↦ kept q other ∙ smaller.3 q here member
         ] in
         let at = any_from net.places R smaller.2 in
-        not_true empty (elim (cases_bool empty) [
-          | inl none ↦ absurd (apart (has found at.0) (greatest.greatest R smaller.1 inside at.0 at.1 at.2) (decides.0 none at.0))
+        not_from_false empty (elim (cases_Bool empty) [
+          | inl none ↦ absurd (both_ways (has found at.0) (decides.0 none at.0) (greatest.greatest R smaller.1 inside at.0 at.1 at.2))
           | inr filled ↦ filled
         ]),
   )
@@ -62,13 +62,13 @@ pub minimal_from : (net : Net) (S : ℕ → Bool) → IsSiphon net S → IsNonem
 minimal_from net S siphon nonempty none = record {
   siphon = siphon;
   nonempty = nonempty;
-  least = λ R smaller some within p below member. elim (cases_bool (R p)) [
+  least = λ R smaller some within p below member. elim (cases_Bool (R p)) [
     | inl has_it ↦ has_it
-    | inr lacks ↦ absurd (none p below member (R, smaller, some, within, not_true (R p) lacks))
+    | inr lacks ↦ absurd (none p below member (R, smaller, some, within, not_from_false (R p) lacks))
   ];
 }
 
 -- a minimal siphon has no smaller one
 pub minimal_without : (net : Net) (S : ℕ → Bool) (p : ℕ) → p < net.places → IsTrue (S p) → HasSiphonWithout net S p → IsMinimalSiphon net S → ⊥
 minimal_without net S p below member smaller minimal =
-    apart (smaller.0 p) (minimal.least smaller.0 smaller.1 smaller.2 smaller.3 p below member) (not_false (smaller.0 p) smaller.4)
+    both_ways (smaller.0 p) (not-true (smaller.0 p) smaller.4) (minimal.least smaller.0 smaller.1 smaller.2 smaller.3 p below member)

@@ -3,7 +3,6 @@ ghost use Rattle.std.specs.List.{list_any};
 ghost use Rattle.net_values.specs.Columns.{Lists};
 ghost use Rattle.net_values.specs.FlatNets.{net_of};
 ghost use Rattle.net_values.specs.PlaceSets.{has};
-ghost use Rattle.closed_sets.specs.ClosedSets.{has_input_in, has_output_in};
 ghost use Rattle.closed_sets.specs.Growth.{is_open};
 ghost use Rattle.closed_sets.specs.Kinds.{seen_as};
 
@@ -40,31 +39,13 @@ impl Kind {
         }
     }
 
-    /// Whether transition `t` has an input place in the set.
-    fn has_input(self, net: &FlatNet, set: &PlaceSet, t: usize) -> bool
-        requires size { length set.now ≡ (net_of net.now).places }
-        requires transition { t < (net_of net.now).transitions }
-        ensures { result ≡ has_input_in (seen_as self (net_of net.now)) (has set.now) t }
-    {
-        meets(self.inputs(net, t), set)
-    }
-
-    /// Whether transition `t` has an output place in the set.
-    fn has_output(self, net: &FlatNet, set: &PlaceSet, t: usize) -> bool
-        requires size { length set.now ≡ (net_of net.now).places }
-        requires transition { t < (net_of net.now).transitions }
-        ensures { result ≡ has_output_in (seen_as self (net_of net.now)) (has set.now) t }
-    {
-        meets(self.outputs(net, t), set)
-    }
-
     /// Whether transition `t` has an output place in the set and no input place in it.
     pub(crate) fn is_open(self, net: &FlatNet, set: &PlaceSet, t: usize) -> bool
         requires size { length set.now ≡ (net_of net.now).places }
         requires transition { t < (net_of net.now).transitions }
         ensures { result ≡ is_open (seen_as self (net_of net.now)) (has set.now) t }
     {
-        self.has_output(net, set, t) && !self.has_input(net, set, t)
+        meets(self.outputs(net, t), set) && !meets(self.inputs(net, t), set)
     }
 }
 

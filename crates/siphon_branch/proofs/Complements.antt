@@ -1,13 +1,13 @@
 -- The greatest siphon in the complement of the avoided set tells whether a class is live. Two greatest siphons
 -- in it contain each other, so it doesn't matter which is looked at.
 use Rattle.std.proofs.Common.{◌≡◌, ◌↔◌, sym, ◌∙◌, ℕ, ◌<◌, List, Bool, false, IsTrue, not, length, inl, inr, arith}
-use Rattle.std.proofs.lemmas.Bool.{cases_lt}
+use Rattle.std.proofs.lemmas.Bool.{cases_lt, both_ways}
 use Rattle.std.proofs.lemmas.List.{get_or_past}
 use Rattle.net_values.specs.Net.{Net}
 use Rattle.net_values.specs.PlaceSets.{complement, has, IsEmpty, IsSubset}
 use Rattle.net_values.proofs.PlaceSets.{complement_has}
 use Rattle.closed_sets.specs.ClosedSets.{IsWithin, IsNonempty, IsGreatestSiphon}
-use Rattle.closed_sets.proofs.Below.{apart, any_at, any_from}
+use Rattle.closed_sets.proofs.Below.{any_at, any_from}
 use Rattle.closed_sets.proofs.SmallerSiphons.{nonempty_from, nonempty_not}
 use Rattle.siphon_branch.specs.declared.branch.Branch.{Branch}
 use Rattle.siphon_branch.specs.Classes.{HasSize, IsLiveClass}
@@ -17,7 +17,7 @@ pub has_within : (n : ℕ) (members : List Bool) (p : ℕ) → length members �
 has_within n members p size member =
     elim (cases_lt p n) [
       | inl below ↦ below
-      | inr past ↦ absurd (apart (has members p) member (get_or_past members p false (omega arith)))
+      | inr past ↦ absurd (both_ways (has members p) (get_or_past members p false (omega arith)) member)
     ]
 
 -- the greatest siphon in one of two sets with the same places is that in the other
@@ -50,6 +50,6 @@ module _ (net : Net) (class : Branch) (found : List Bool) (size : HasSize net.pl
       has_all = λ p below member. decides.0 holds p member;
     },
     λ live. decides.1 (λ p member.
-      let below = has_within net.places class.contains p size.contains member in
-      in_found live p below (live.has_all p below member)),
+        let below = has_within net.places class.contains p size.contains member in
+        in_found live p below (live.has_all p below member)),
   )

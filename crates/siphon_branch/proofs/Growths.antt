@@ -2,11 +2,10 @@
 -- determined, so a siphon is grown in a class exactly where it is the contained set itself, or is grown in
 -- the one part whose place is that input place.
 use Rattle.std.proofs.Common.{◌≡◌, refl, sym, subst, ℕ, ◌<◌, ◌==◌, ◌||◌, Bool, false, IsTrue, ltb, inl, inr, arith}
-use Rattle.std.proofs.lemmas.Bool.{or_cases, or_left, or_right, eq-eqb, eqb-true, lt-ltb, ltb-true}
+use Rattle.std.proofs.lemmas.Bool.{or_cases, or_left, or_right, eq-eqb, eqb-true, lt-ltb, ltb-true, and_from, and_parts, both_ways, cases_Bool}
 use Rattle.net_values.specs.Net.{Net}
 use Rattle.closed_sets.specs.ClosedSets.{IsSiphon, IsWithin}
 use Rattle.closed_sets.specs.Growth.{IsFirst, is_open, is_input_in, with_place, Belongs, GrowsWhole, whole, more}
-use Rattle.closed_sets.proofs.Below.{cases_bool, apart, both, both_left, both_right}
 use Rattle.closed_sets.proofs.Firsts.{first_same}
 use Rattle.closed_sets.proofs.Passes.{closed_from_siphon}
 
@@ -17,11 +16,11 @@ same_growth net S A A' same grows = subst (λ (B : ℕ → Bool). GrowsWhole net
 -- the growth from a siphon is over
 pub growth_over : (net : Net) (S A : ℕ → Bool) → IsSiphon net A → GrowsWhole net S A → IsWithin net S A
 growth_over net S A siphon (whole closed within) = within
-growth_over net S A siphon (more t p opens first grows) = absurd (apart _ opens.passes (closed_from_siphon net A siphon t opens.below))
+growth_over net S A siphon (more t p opens first grows) = absurd (both_ways _ (closed_from_siphon net A siphon t opens.below) opens.passes)
 
 -- the growth from a set with an open transition goes on with its lowest input place in the siphon
 pub growth_next : (net : Net) (S A : ℕ → Bool) (t p : ℕ) → IsFirst net.transitions (is_open net A) t → IsFirst net.places (is_input_in net S t) p → GrowsWhole net S A → GrowsWhole net S (with_place A p)
-growth_next net S A t p opens first (whole closed within) = absurd (apart _ opens.passes (closed_from_siphon net A closed t opens.below))
+growth_next net S A t p opens first (whole closed within) = absurd (both_ways _ (closed_from_siphon net A closed t opens.below) opens.passes)
 growth_next net S A t p opens first (more u q opens' first' grows) =
     let same : u ≡ t = first_same net.transitions (is_open net A) u t opens' opens in
     let there : q ≡ p = first_same net.places (is_input_in net S t) q p (subst (λ (v : ℕ). IsFirst net.places (is_input_in net S v) q) same first') first in
@@ -35,11 +34,11 @@ module _ (net : Net) (A B N S : ℕ → Bool) (t p : ℕ) (opens : IsFirst net.t
   is_first : IsTrue (S p) → ((q : ℕ) → q < net.places → IsTrue (N q) → S q ≡ false) → IsFirst net.places (is_input_in net S t) p
   is_first member none = record {
     below = below;
-    passes = both (S p) (ltb 0 (net.pre p t)) member (lt-ltb 0 (net.pre p t) takes);
-    before = λ q less. elim (cases_bool (is_input_in net S t q)) [
+    passes = and_from (S p) (ltb 0 (net.pre p t)) member (lt-ltb 0 (net.pre p t) takes);
+    before = λ q less. elim (cases_Bool (is_input_in net S t q)) [
       | inl input ↦
-          let weighs = ltb-true 0 (net.pre q t) (both_right (S q) (ltb 0 (net.pre q t)) input) in
-          absurd (apart (S q) (both_left (S q) (ltb 0 (net.pre q t)) input) (none q (omega arith) (inputs q less weighs)))
+          let weighs = ltb-true 0 (net.pre q t) (and_parts (S q) (ltb 0 (net.pre q t)) input).1 in
+          absurd (both_ways (S q) (none q (omega arith) (inputs q less weighs)) (and_parts (S q) (ltb 0 (net.pre q t)) input).0)
       | inr none' ↦ none'
     ];
   }

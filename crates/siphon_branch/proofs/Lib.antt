@@ -7,5 +7,7 @@ pub mod Keeping
 pub mod MinimalGrown
 pub mod Sorting
 pub mod LiveClasses
+pub mod AllSets
+pub mod Decisions
 pub mod Limits
 pub mod TrapLists

@@ -1,34 +1,35 @@
 -- Lists of sets, each once: two lists with nothing in common make one of both, and what is appended in two
 -- steps is appended together.
-use Rattle.std.proofs.Common.{◌≡◌, refl, sym, ap, ◌∙◌, subst, ℕ, ◌+◌, ◌-◌, ◌<◌, ◌↔◌, ◌⊎◌, List, [], ◌∷◌, ◌++◌, Bool, length, get_or, append_assoc, length-append, inl, inr, All, Contains, Result, Ok, Err, OnOk, arith}
+use Rattle.std.proofs.Common.{◌≡◌, refl, sym, ap, ◌∙◌, subst, ℕ, ◌+◌, ◌-◌, ◌↔◌, ◌⊎◌, List, [], ◌∷◌, ◌++◌, Bool, length, get_or, append_assoc, length-append, inl, inr, All, AllPairs, Contains, Result, Ok, Err, OnOk, arith}
 use Rattle.std.proofs.lemmas.Bool.{cases_lt}
-use Rattle.std.proofs.lemmas.List.{get_or_append_left, get_or-append_right, append-nil, get_or_default}
-use Rattle.std.proofs.lemmas.List.Elements.{Contains-append_left, Contains-append_right, Contains-append_cases}
+use Rattle.std.proofs.lemmas.List.{get_or_append_left, get_or-append_right, append-nil}
+use Rattle.std.proofs.lemmas.List.Elements.{Contains-get_or, Contains-append_left, Contains-append_right, Contains-append_cases}
 use Rattle.siphon_branch.specs.Limits.{AreDistinct}
 use Rattle.siphon_branch.specs.Met.{Adds, AddsSome}
 
-contains_at : {X : Type 0} (xs : List X) (i : ℕ) (d : X) → i < length xs → Contains xs (get_or xs i d)
-contains_at xs i d within = (i, within, get_or_default xs i (get_or xs i d) d within)
-
-pub distinct_append : {X : Type 0} (xs ys : List X) → AreDistinct xs → AreDistinct ys → ((x : X) → Contains xs x → Contains ys x → ⊥) → AreDistinct (xs ++ ys)
-distinct_append xs ys one other disjoint i j d less within same =
+-- what holds of all pairs in two lists and across them holds of all pairs in both
+pub pairs_append : {X : Type 0} (R : X → X → Type 0) (xs ys : List X) → AllPairs R xs → AllPairs R ys → ((x y : X) → Contains xs x → Contains ys y → R x y) → AllPairs R (xs ++ ys)
+pairs_append R xs ys one other across i j d less within =
     let total = length-append xs ys in
     elim (cases_lt j (length xs)) [
       | inl left ↦
-          one i j d less left (sym (get_or_append_left xs ys d i (omega arith)) ∙ same ∙ get_or_append_left xs ys d j left)
+          subst (λ x. R x (get_or (xs ++ ys) j d)) (sym (get_or_append_left xs ys d i (omega arith)))
+          (subst (λ y. R (get_or xs i d) y) (sym (get_or_append_left xs ys d j left)) (one i j d less left))
       | inr right ↦
-          let at_j = get_or-append_right xs ys (length xs) j d refl right in
-          elim (cases_lt i (length xs)) [
+          subst (λ y. R (get_or (xs ++ ys) i d) y) (sym (get_or-append_right xs ys (length xs) j d refl right))
+          (elim (cases_lt i (length xs)) [
             | inl left ↦
-                let at_i = get_or_append_left xs ys d i left in
-                let common : get_or xs i d ≡ get_or ys (j - length xs) d = sym at_i ∙ same ∙ at_j in
-                disjoint (get_or xs i d) (contains_at xs i d left)
-                (subst (λ x. Contains ys x) (sym common) (contains_at ys (j - length xs) d (omega arith)))
+                subst (λ x. R x (get_or ys (j - length xs) d)) (sym (get_or_append_left xs ys d i left))
+                (across (get_or xs i d) (get_or ys (j - length xs) d) (Contains-get_or xs i d left) (Contains-get_or ys (j - length xs) d (omega arith)))
             | inr right' ↦
-                let at_i = get_or-append_right xs ys (length xs) i d refl right' in
-                other (i - length xs) (j - length xs) d (omega arith) (omega arith) (sym at_i ∙ same ∙ at_j)
-          ]
+                subst (λ x. R x (get_or ys (j - length xs) d)) (sym (get_or-append_right xs ys (length xs) i d refl right'))
+                (other (i - length xs) (j - length xs) d (omega arith) (omega arith))
+          ])
     ]
+
+pub distinct_append : {X : Type 0} (xs ys : List X) → AreDistinct xs → AreDistinct ys → ((x : X) → Contains xs x → Contains ys x → ⊥) → AreDistinct (xs ++ ys)
+distinct_append xs ys one other disjoint =
+    pairs_append (λ x later. x ≡ later → ⊥) xs ys one other (λ x y first then same. disjoint x first (subst (λ z. Contains ys z) (sym same) then))
 
 pub distinct_one : {X : Type 0} (x : X) → AreDistinct (x ∷ [])
 distinct_one x i j d less within same = absurd (omega arith)
@@ -133,7 +134,7 @@ adds_sizes P n a b adds sized before k d within =
       | inl left ↦ ap length (here ∙ get_or_append_left a adds.added d k left) ∙ before k d left
       | inr right ↦
           let there = get_or-append_right a adds.added (length a) k d refl right in
-          ap length (here ∙ there) ∙ sized _ ((adds.exact.members _).0 (contains_at adds.added (k - length a) d (omega arith)))
+          ap length (here ∙ there) ∙ sized _ ((adds.exact.members _).0 (Contains-get_or adds.added (k - length a) d (omega arith)))
     ]
 
 pub on_ok_map : {X E A B : Type 0} (r : Result X E) → (A → B) → OnOk r A → OnOk r B

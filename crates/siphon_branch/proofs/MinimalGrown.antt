@@ -2,11 +2,11 @@
 -- siphon, and each step leaves one place less outside. A minimal siphon contains what grows from its lowest
 -- place, and so is grown.
 use Rattle.std.proofs.Common.{◌≡◌, refl, sym, subst, ℕ, zero, suc, ◌<◌, ◌==◌, Bool, false, IsTrue, ltb, inl, inr, arith}
-use Rattle.std.proofs.lemmas.Bool.{or_cases, or_left, or_right, eq-eqb, eqb-true, ltb-true}
+use Rattle.std.proofs.lemmas.Bool.{or_cases, or_left, or_right, eq-eqb, eqb-true, ltb-true, and_from, and_parts, both_ways, cases_Bool, not-true}
 use Rattle.net_values.specs.Net.{Net}
 use Rattle.closed_sets.specs.ClosedSets.{has_input_in, has_output_in, IsSiphon, IsWithin, IsMinimalSiphon}
 use Rattle.closed_sets.specs.Growth.{is_open, is_input_in, with_place, only_place, GrowsWhole, whole, more, IsGrown}
-use Rattle.closed_sets.proofs.Below.{cases_bool, apart, both, both_left, both_right, not_false, any_at, any_from, pair_at, pair_from}
+use Rattle.closed_sets.proofs.Below.{any_at, any_from, pair_at, pair_from}
 use Rattle.closed_sets.proofs.Firsts.{first_of}
 use Rattle.closed_sets.proofs.Outside.{outside, outside_lt}
 use Rattle.closed_sets.proofs.Passes.{siphon_from_closed}
@@ -27,16 +27,16 @@ grows_in (suc steps) net U A siphon within few =
           record { S = A; siphon = closed; contains = λ p below member. member; within = within; grows = whole closed (λ p below member. member) }
       | inl opens ↦
           let t = opens.0 in
-          let gives = pair_from net.places A (λ p. net.post p t) (both_left (has_output_in net A t) _ opens.1.passes) in
+          let gives = pair_from net.places A (λ p. net.post p t) (and_parts (has_output_in net A t) _ opens.1.passes).0 in
           let takes = siphon t opens.1.below (pair_at net.places U (λ p. net.post p t) gives.0 gives.1 (within gives.0 gives.1 gives.2) gives.3) in
           elim (first_of net.places (is_input_in net U t)) [
-            | inr none ↦ let at = any_from net.places (is_input_in net U t) takes in absurd (apart _ at.2 (none at.0 at.1))
+            | inr none ↦ let at = any_from net.places (is_input_in net U t) takes in absurd (both_ways _ (none at.0 at.1) at.2)
             | inl input ↦
                 let p = input.0 in
-                let member : IsTrue (U p) = both_left (U p) (ltb 0 (net.pre p t)) input.1.passes in
-                let weighs : IsTrue (ltb 0 (net.pre p t)) = both_right (U p) (ltb 0 (net.pre p t)) input.1.passes in
-                let out : A p ≡ false = elim (cases_bool (A p)) [
-                  | inl inside ↦ absurd (apart (has_input_in net A t) (pair_at net.places A (λ q. net.pre q t) p input.1.below inside (ltb-true 0 (net.pre p t) weighs)) (not_false _ (both_right (has_output_in net A t) _ opens.1.passes)))
+                let member : IsTrue (U p) = (and_parts (U p) (ltb 0 (net.pre p t)) input.1.passes).0 in
+                let weighs : IsTrue (ltb 0 (net.pre p t)) = (and_parts (U p) (ltb 0 (net.pre p t)) input.1.passes).1 in
+                let out : A p ≡ false = elim (cases_Bool (A p)) [
+                  | inl inside ↦ absurd (both_ways (has_input_in net A t) (not-true _ (and_parts (has_output_in net A t) _ opens.1.passes).1) (pair_at net.places A (λ q. net.pre q t) p input.1.below inside (ltb-true 0 (net.pre p t) weighs)))
                   | inr fails ↦ fails
                 ] in
                 let less = outside_lt net.places A (with_place A p) p (λ k _ inside. or_right (k == p) (A k) inside) input.1.below out (or_left (p == p) (A p) (eq-eqb p p refl)) in
@@ -52,11 +52,11 @@ grows_in (suc steps) net U A siphon within few =
                   within = rest.within;
                   grows = more t p opens.1 record {
                     below = input.1.below;
-                    passes = both (rest.S p) (ltb 0 (net.pre p t)) (rest.contains p input.1.below (or_left (p == p) (A p) (eq-eqb p p refl))) weighs;
-                    before = λ k before. elim (cases_bool (is_input_in net rest.S t k)) [
+                    passes = and_from (rest.S p) (ltb 0 (net.pre p t)) (rest.contains p input.1.below (or_left (p == p) (A p) (eq-eqb p p refl))) weighs;
+                    before = λ k before. elim (cases_Bool (is_input_in net rest.S t k)) [
                       | inl passes ↦
-                          let inside = rest.within k (omega (arith, input.1.below)) (both_left (rest.S k) (ltb 0 (net.pre k t)) passes) in
-                          absurd (apart _ (both (U k) (ltb 0 (net.pre k t)) inside (both_right (rest.S k) (ltb 0 (net.pre k t)) passes)) (input.1.before k before))
+                          let inside = rest.within k (omega (arith, input.1.below)) (and_parts (rest.S k) (ltb 0 (net.pre k t)) passes).0 in
+                          absurd (both_ways _ (input.1.before k before) (and_from (U k) (ltb 0 (net.pre k t)) inside (and_parts (rest.S k) (ltb 0 (net.pre k t)) passes).1))
                       | inr fails ↦ fails
                     ];
                   } rest.grows;
@@ -70,11 +70,11 @@ growth_other net S R A within back (whole closed inside) = whole closed (λ p be
 growth_other net S R A within back (more t p opens first grows) =
     more t p opens record {
       below = first.below;
-      passes = both (S p) (ltb 0 (net.pre p t)) (back p first.below (both_left (R p) _ first.passes)) (both_right (R p) _ first.passes);
-      before = λ k before. elim (cases_bool (is_input_in net S t k)) [
+      passes = and_from (S p) (ltb 0 (net.pre p t)) (back p first.below (and_parts (R p) _ first.passes).0) (and_parts (R p) _ first.passes).1;
+      before = λ k before. elim (cases_Bool (is_input_in net S t k)) [
         | inl passes ↦
-            let inside = within k (omega (arith, first.below)) (both_left (S k) (ltb 0 (net.pre k t)) passes) in
-            absurd (apart _ (both (R k) (ltb 0 (net.pre k t)) inside (both_right (S k) (ltb 0 (net.pre k t)) passes)) (first.before k before))
+            let inside = within k (omega (arith, first.below)) (and_parts (S k) (ltb 0 (net.pre k t)) passes).0 in
+            absurd (both_ways _ (first.before k before) (and_from (R k) (ltb 0 (net.pre k t)) inside (and_parts (S k) (ltb 0 (net.pre k t)) passes).1))
         | inr fails ↦ fails
       ];
     } (growth_other net S R (with_place A p) within back grows)
@@ -82,7 +82,7 @@ growth_other net S R A within back (more t p opens first grows) =
 pub minimal_grown : (net : Net) (S : ℕ → Bool) → IsMinimalSiphon net S → IsGrown net S
 minimal_grown net S minimal =
     elim (first_of net.places S) [
-      | inr none ↦ let at = any_from net.places S minimal.nonempty in absurd (apart _ at.2 (none at.0 at.1))
+      | inr none ↦ let at = any_from net.places S minimal.nonempty in absurd (both_ways _ (none at.0 at.1) at.2)
       | inl first ↦
           let p = first.0 in
           let grown = grows_in (suc (outside net.places (only_place p))) net S (only_place p) minimal.siphon

@@ -5,7 +5,7 @@
 use Rattle.std.proofs.Common.{◌≡◌, ◌↔◌, ◌⊎◌, refl, sym, ap, ◌∙◌, subst, ℕ, ◌+◌, ◌-◌, ◌<◌, ◌≤◌, ◌==◌, ◌||◌, List, [], ◌∷◌, ◌++◌, Bool, true, false, IsTrue, not, eqb, cond, length, get_or, set, take, length-set, inl, inr, arith}
 use Rattle.std.specs.List.{list_any}
 use Rattle.std.proofs.Math.Bool.{or-false}
-use Rattle.std.proofs.lemmas.Bool.{or_cases, or_left, or_right, cases_lt, cases_eq, true≢false, false≢true, eq-eqb, eqb-true}
+use Rattle.std.proofs.lemmas.Bool.{or_cases, or_left, or_right, cases_lt, cases_eq, true≢false, false≢true, eq-eqb, eqb-true, and_parts, both_ways, cases_Bool, not-true, not_from_false}
 use Rattle.std.proofs.lemmas.List.{get_or-set_same, get_or-set_other, set-set, set-get_or, get_or-take, length-take-le, get_or_default, take_all, same_lists}
 use Rattle.std.proofs.lemmas.List.Folds.{Any-from_list_any, list_any_at, list_any_more}
 use Rattle.std.proofs.lemmas.List.Sums.{sum_by-set, count_by-le-length}
@@ -16,7 +16,7 @@ use Rattle.net_values.specs.PlaceSets.{has}
 use Rattle.closed_sets.specs.ClosedSets.{has_input_in, has_output_in, IsSiphon, IsNonempty}
 use Rattle.closed_sets.specs.Growth.{IsFirst, is_open, with_place, Belongs, whole}
 use Rattle.closed_sets.specs.Passes.{members}
-use Rattle.closed_sets.proofs.Below.{cases_bool, apart, same_bools, any_at, any_from, both_left, both_right, not_true, not_false, pair_at, pair_from}
+use Rattle.closed_sets.proofs.Below.{same_bools, any_at, any_from, pair_at, pair_from}
 use Rattle.closed_sets.proofs.GreatestSiphons.{greatest_there}
 use Rattle.closed_sets.proofs.Passes.{meets_is}
 use Rattle.siphon_branch.specs.declared.branch.Branch.{Branch}
@@ -35,9 +35,9 @@ or_skip false b none = refl
 -- the place is added
 pub placed : (list : List Bool) (p : ℕ) → p < length list → (q : ℕ) → has (set list p true) q ≡ with_place (has list) p q
 placed list p within q =
-    elim (cases_bool (eqb q p)) [
+    elim (cases_Bool (eqb q p)) [
       | inl same ↦ subst (λ (r : ℕ). has (set list p true) r ≡ true) (sym (eqb-true q p same)) (get_or-set_same list p true false within) ∙ sym (or_left (eqb q p) (has list q) same)
-      | inr other ↦ get_or-set_other list p q true false (λ e. apart (eqb q p) (eq-eqb q p e) other) ∙ sym (or_skip (eqb q p) (has list q) other)
+      | inr other ↦ get_or-set_other list p q true false (λ e. both_ways (eqb q p) other (eq-eqb q p e)) ∙ sym (or_skip (eqb q p) (has list q) other)
     ]
 
 -- and taken back
@@ -54,8 +54,8 @@ belongs_same net A A' B B' S a b h = record {
 none_met : (xs : List WeightedPlace) (S : ℕ → Bool) → list_any (λ entry. S entry.place) xs ≡ false → (q : ℕ) → IsTrue (list_any (λ entry. entry.place == q) xs) → S q ≡ false
 none_met [] S none q listed = absurd (false≢true listed)
 none_met (x ∷ xs) S none q listed =
-    elim (cases_bool (S x.place)) [
-      | inl member ↦ absurd (apart _ (or_left (S x.place) (list_any (λ entry. S entry.place) xs) member) none)
+    elim (cases_Bool (S x.place)) [
+      | inl member ↦ absurd (both_ways _ none (or_left (S x.place) (list_any (λ entry. S entry.place) xs) member))
       | inr out ↦ elim (or_cases (x.place == q) (list_any (λ entry. entry.place == q) xs) listed) [
         | inl here ↦ subst (λ (r : ℕ). S r ≡ false) (eqb-true x.place q here) out
         | inr later ↦ none_met xs S (sym (or_skip (S x.place) (list_any (λ entry. S entry.place) xs) out) ∙ none) q later
@@ -89,17 +89,17 @@ partway_none net class entries limit met size room = record {
   size = size.avoids;
   avoids = λ q. sym (ap (λ b. has class.avoids q || b) (take_none entries (λ entry. entry.place == q)) ∙ or-false (has class.avoids q));
   meets = record {
-    adds = adds_nothing (MetBefore net class entries 0) met (λ members grown. apart _ grown.1 (take_none entries (λ entry. has members entry.place)));
+    adds = adds_nothing (MetBefore net class entries 0) met (λ members grown. both_ways _ (take_none entries (λ entry. has members entry.place)) grown.1);
     room = room;
   };
 }
 
 eqb_turned : (a b : ℕ) → eqb a b ≡ eqb b a
 eqb_turned a b =
-    elim (cases_bool (eqb a b)) [
+    elim (cases_Bool (eqb a b)) [
       | inl same ↦ same ∙ sym (eq-eqb b a (sym (eqb-true a b same)))
-      | inr other ↦ elim (cases_bool (eqb b a)) [
-        | inl same ↦ absurd (apart (eqb a b) (eq-eqb a b (sym (eqb-true b a same))) other)
+      | inr other ↦ elim (cases_Bool (eqb b a)) [
+        | inl same ↦ absurd (both_ways (eqb a b) other (eq-eqb a b (sym (eqb-true b a same))))
         | inr none ↦ other ∙ sym none
       ]
     ]
@@ -157,8 +157,8 @@ module _ (net : Net) (class : Branch) (entries : List WeightedPlace) (t i limit 
   -- an input place of an open transition isn't in the set
   pub free : has class.contains at ≡ false
   free =
-      elim (cases_bool (has class.contains at)) [
-        | inl member ↦ absurd (apart (has_input_in net (has class.contains) t) (pair_at net.places (has class.contains) (λ p. net.pre p t) at below member takes) (not_false _ (both_right (has_output_in net (has class.contains) t) _ opens.passes)))
+      elim (cases_Bool (has class.contains at)) [
+        | inl member ↦ absurd (both_ways (has_input_in net (has class.contains) t) (not-true _ (and_parts (has_output_in net (has class.contains) t) _ opens.passes).1) (pair_at net.places (has class.contains) (λ p. net.pre p t) at below member takes))
         | inr out ↦ out
       ]
 
@@ -211,7 +211,7 @@ module _ (net : Net) (class : Branch) (entries : List WeightedPlace) (t i limit 
         }
 
     disjoint : (list : List Bool) → MetBefore net class entries i list → Part list → ⊥
-    disjoint list before grown = apart _ before.1 (part_to list grown).2
+    disjoint list before grown = both_ways _ (part_to list grown).2 before.1
 
     one_more : (list : List Bool) → list_any (λ (entry : WeightedPlace). has list entry.place) (take (i + 1) entries) ≡ (list_any (λ (entry : WeightedPlace). has list entry.place) (take i entries) || has list at)
     one_more list = list_any_more (λ (entry : WeightedPlace). has list entry.place) entries i nowhere within
@@ -222,7 +222,7 @@ module _ (net : Net) (class : Branch) (entries : List WeightedPlace) (t i limit 
         | inl before ↦ (before.0, one_more list ∙ or_left (list_any (λ (entry : WeightedPlace). has list entry.place) (take i entries)) (has list at) before.1)
         | inr grown ↦ let all = part_to list grown in (all.0, one_more list ∙ or_right (list_any (λ (entry : WeightedPlace). has list entry.place) (take i entries)) (has list at) all.1)
       ],
-      λ after. elim (cases_bool (list_any (λ (entry : WeightedPlace). has list entry.place) (take i entries))) [
+      λ after. elim (cases_Bool (list_any (λ (entry : WeightedPlace). has list entry.place) (take i entries))) [
         | inl before ↦ inl (after.0, before)
         | inr none ↦ inr (part_from list after.0 (sym (or_skip _ (has list at) none) ∙ sym (one_more list) ∙ after.1) none)
       ],
@@ -263,7 +263,7 @@ partway_all net class part entries t i limit old met opens h past partway = reco
         λ before. before.0,
         λ grown. (
           grown,
-          let gives = pair_from net.places (has class.contains) (λ p. net.post p t) (both_left (has_output_in net (has class.contains) t) _ opens.passes) in
+          let gives = pair_from net.places (has class.contains) (λ p. net.post p t) (and_parts (has_output_in net (has class.contains) t) _ opens.passes).0 in
               let gives' = pair_at net.places (has list) (λ p. net.post p t) gives.0 gives.1 (grown.belongs.has_all gives.0 gives.1 gives.2) gives.3 in
               let takes = grown.siphon t opens.below gives' in
               ap (λ (xs : List WeightedPlace). list_any (λ (entry : WeightedPlace). has list entry.place) xs) (take_all i entries past) ∙ meets_is net.places (λ p. net.pre p t) entries (has list) h ∙ takes,
@@ -277,18 +277,18 @@ partway_all net class part entries t i limit old met opens h past partway = reco
 pub dead_meets : (net : Net) (class : Branch) (limit : ℕ) (met : List (List Bool)) → IsNonempty net (has class.contains) → (IsLiveClass net (has class.contains) (has class.avoids) → ⊥) → length met ≤ limit → Meets (IsGrownFrom net class.contains class.avoids) limit met met
 dead_meets net class limit met some dead room = record {
   adds = adds_nothing (IsGrownFrom net class.contains class.avoids) met (λ list grown.
-    let U = greatest_there net (λ p. not (has class.avoids p)) in
-    let within = U.1.greatest (has list) grown.siphon (λ p below member. not_true (has class.avoids p) (elim (cases_bool (has class.avoids p)) [
-      | inl avoided ↦ absurd (apart (has list p) member (grown.belongs.has_none p below avoided))
-      | inr out ↦ out
-    ])) in
-    let at = any_from net.places (has class.contains) some in
-    dead record {
-      greatest = U.0;
-      is_greatest = U.1;
-      nonempty = any_at net.places U.0 at.0 at.1 (within at.0 at.1 (grown.belongs.has_all at.0 at.1 at.2));
-      has_all = λ p below member. within p below (grown.belongs.has_all p below member);
-    });
+      let U = greatest_there net (λ p. not (has class.avoids p)) in
+      let within = U.1.greatest (has list) grown.siphon (λ p below member. not_from_false (has class.avoids p) (elim (cases_Bool (has class.avoids p)) [
+        | inl avoided ↦ absurd (both_ways (has list p) (grown.belongs.has_none p below avoided) member)
+        | inr out ↦ out
+      ])) in
+      let at = any_from net.places (has class.contains) some in
+      dead record {
+        greatest = U.0;
+        is_greatest = U.1;
+        nonempty = any_at net.places U.0 at.0 at.1 (within at.0 at.1 (grown.belongs.has_all at.0 at.1 at.2));
+        has_all = λ p below member. within p below (grown.belongs.has_all p below member);
+      });
   room = room;
 }
 
@@ -301,8 +301,8 @@ leaf_adds net class met size live siphon =
       siphon = siphon;
       belongs = record {
         has_all = λ p below member. member;
-        has_none = λ p below avoided. elim (cases_bool (has class.contains p)) [
-          | inl member ↦ absurd (apart (has class.avoids p) avoided (not_false _ (live.is_greatest.within p below (live.has_all p below member))))
+        has_none = λ p below avoided. elim (cases_Bool (has class.contains p)) [
+          | inl member ↦ absurd (both_ways (has class.avoids p) (not-true _ (live.is_greatest.within p below (live.has_all p below member))) avoided)
           | inr out ↦ out
         ];
       };

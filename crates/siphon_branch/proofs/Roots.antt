@@ -2,13 +2,13 @@
 -- place that avoids those before it are the grown siphons with that lowest place.
 use Rattle.std.proofs.Common.{◌≡◌, ◌↔◌, ◌⊎◌, refl, sym, ap, ◌∙◌, subst, ℕ, ◌+◌, ◌<◌, ◌≤◌, ◌||◌, List, Bool, true, false, IsTrue, eqb, ltb, length, set, replicate, length-set, add-one, inl, inr, arith}
 use Rattle.std.proofs.Math.Bool.{or-false}
-use Rattle.std.proofs.lemmas.Bool.{or_cases, or_left, or_right, cases_lt, cases_eq, eq-eqb, eqb-true, lt-ltb, ltb-true, le-ltb}
+use Rattle.std.proofs.lemmas.Bool.{or_cases, or_left, or_right, cases_lt, cases_eq, eq-eqb, eqb-true, lt-ltb, ltb-true, le-ltb, both_ways, cases_Bool}
 use Rattle.std.proofs.lemmas.List.{get_or_past, get_or-replicate, length-replicate}
 use Rattle.net_values.specs.Net.{Net}
 use Rattle.net_values.specs.PlaceSets.{has}
 use Rattle.closed_sets.specs.ClosedSets.{any_below, IsNonempty}
 use Rattle.closed_sets.specs.Growth.{IsFirst, only_place, GrowsWhole}
-use Rattle.closed_sets.proofs.Below.{cases_bool, apart, same_bools, any_at, none_from, none_at}
+use Rattle.closed_sets.proofs.Below.{same_bools, any_at, none_from, none_at}
 use Rattle.closed_sets.proofs.Firsts.{first_same}
 use Rattle.siphon_branch.specs.declared.branch.Branch.{Branch}
 use Rattle.siphon_branch.specs.Classes.{HasSize}
@@ -42,7 +42,7 @@ begun_none net limit met room = record {
   size = length-replicate net.places false;
   avoids = λ q. zeros_have net.places q ∙ sym (le-ltb q 0 (omega arith));
   meets = record {
-    adds = adds_nothing (FoundBefore net 0) met (λ list found. apart _ found.1 refl);
+    adds = adds_nothing (FoundBefore net 0) met (λ list found. both_ways _ refl found.1);
     room = room;
   };
 }
@@ -115,7 +115,7 @@ module _ (net : Net) (part : Branch) (p limit : ℕ) (old met : List (List Bool)
       }
 
   disjoint : (list : List Bool) → FoundBefore net p list → Part list → ⊥
-  disjoint list before grown = apart _ before.1 (root_to list grown).2
+  disjoint list before grown = both_ways _ (root_to list grown).2 before.1
 
   found_more : (list : List Bool) → (FoundBefore net p list ⊎ Part list) ↔ FoundBefore net (p + 1) list
   found_more list = (
@@ -123,11 +123,11 @@ module _ (net : Net) (part : Branch) (p limit : ℕ) (old met : List (List Bool)
       | inl before ↦ (before.0, below_more p (has list) ∙ or_right (has list p) (any_below p (has list)) before.1)
       | inr grown ↦ let all = root_to list grown in (all.0, below_more p (has list) ∙ or_left (has list p) (any_below p (has list)) all.1)
     ],
-    λ after. elim (cases_bool (any_below p (has list))) [
+    λ after. elim (cases_Bool (any_below p (has list))) [
       | inl before ↦ inl (after.0, before)
       | inr none ↦ inr (root_from list after.0 (elim (or_cases (has list p) (any_below p (has list)) (sym (below_more p (has list)) ∙ after.1)) [
         | inl member ↦ member
-        | inr some ↦ absurd (apart _ some none)
+        | inr some ↦ absurd (both_ways _ none some)
       ]) none)
     ],
   )

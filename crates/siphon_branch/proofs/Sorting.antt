@@ -40,7 +40,7 @@ less_from Less back turned none other = refl
 less_from Equal back turned none other = absurd (other refl)
 less_from Greater back turned none other = absurd (true≢false (sym (ap is_lt turned) ∙ none))
 
-equal_itself : (list : List Bool) → slice_cmp bool_cmp list list ≡ Equal
+pub equal_itself : (list : List Bool) → slice_cmp bool_cmp list list ≡ Equal
 equal_itself [] = refl
 equal_itself (true ∷ xs) = equal_itself xs
 equal_itself (false ∷ xs) = equal_itself xs

@@ -1,6 +1,6 @@
 -- How many grown siphons, or grown traps, a net has. Each set is the list of truth values that tell for each
 -- place of the net whether it is in.
-use Rattle.std.specs.Prelude.{◌≡◌, ◌≤◌, ℕ, ◌+◌, List, Bool, length, AllPairs, Contains}
+use Rattle.std.specs.Prelude.{◌≡◌, ◌≤◌, ◌⊎◌, ℕ, ◌+◌, List, Bool, length, AllPairs, Contains}
 use Rattle.net_values.specs.Net.{Net}
 use Rattle.net_values.specs.PlaceSets.{has}
 use Rattle.closed_sets.specs.Growth.{IsGrown, IsGrownTrap}
@@ -30,6 +30,10 @@ pub record CarriesMore (Property : List Bool → Type 0) (limit : ℕ) (carried 
   pub count : length carried ≡ limit + 1
   pub distinct : AreDistinct carried
   pub grown : (set : List Bool) → Contains carried set → Property set
+
+-- one or the other
+abbrev pub AtMostOrMore : (List Bool → Type 0) → ℕ → Type 0
+AtMostOrMore Property limit = HaveAtMost Property limit ⊎ ((carried : List (List Bool)) × CarriesMore Property limit carried)
 
 -- the net has at most this many grown siphons
 abbrev pub HasAtMostGrown : Net → ℕ → Type 0

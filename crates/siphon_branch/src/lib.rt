@@ -11,6 +11,7 @@ mod tests;
 
 pub use fault::SetFault;
 pub use laws::{
-    few_are_not_many, live_classes_have_a_grown_siphon, minimal_siphons_are_grown, trap_lists_are_siphon_lists_reversed,
+    few_are_not_many, few_or_many, live_classes_have_a_grown_siphon, minimal_siphons_are_grown,
+    minimal_siphons_have_a_list, trap_lists_are_siphon_lists_reversed,
 };
 pub use list::minimal_siphons;

@@ -10,7 +10,7 @@ ghost use Rattle.siphon_branch.specs.Faults.{FailsToList};
 ghost use Rattle.siphon_branch.specs.Limits.{AreDistinct, HasAtMostGrown};
 ghost use Rattle.siphon_branch.specs.Met.{IsListOf};
 
-use crate::fault::{SetFault, SearchFault};
+use crate::fault::{SearchFault, SetFault};
 use crate::search::meet_all;
 use closed_sets::is_minimal_siphon;
 use net_values::{FlatNet, NoMemory, PlaceSet, Sets};

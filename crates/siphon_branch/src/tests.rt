@@ -21,7 +21,12 @@ fn table_for(rt: &impl Abort, alloc: Global, philosophers: usize) -> Result<Flat
         arcs.push((eat, release, -1))?;
     }
     let marking = [0; 600];
-    net_with(alloc, &marking[..3 * philosophers], 2 * philosophers, arcs.as_slice())
+    net_with(
+        alloc,
+        &marking[..3 * philosophers],
+        2 * philosophers,
+        arcs.as_slice(),
+    )
 }
 
 /// Whether the set has exactly the places of the row.
@@ -47,7 +52,12 @@ fn has_rows(list: &Sets, rows: &[&[usize]]) -> bool {
 #[test]
 fn minimal_siphons_and_traps_of_small_nets(rt: HostRuntime) -> Result<(), Fail> {
     let alloc = rt.alloc();
-    let ring = net_with(alloc, &[0; 2], 2, &[(0, 0, -1), (1, 0, 1), (1, 1, -1), (0, 1, 1)])?;
+    let ring = net_with(
+        alloc,
+        &[0; 2],
+        2,
+        &[(0, 0, -1), (1, 0, 1), (1, 1, -1), (0, 1, 1)],
+    )?;
     let line = net_with(alloc, &[0; 2], 1, &[(0, 0, -1), (1, 0, 1)])?;
     let isles = net_with(alloc, &[0; 2], 0, &[])?;
     let only = net_with(alloc, &[], 1, &[])?;

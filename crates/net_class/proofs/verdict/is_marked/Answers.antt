@@ -1,8 +1,8 @@
 use Rattle.std.proofs.Common.{refl, ◌<◌, IsTrue, arith, rules}
-use Rattle.std.proofs.lemmas.Bool.{false≢true}
+use Rattle.std.proofs.lemmas.Bool.{false≢true, both_ways}
 use Rattle.net_values.specs.FlatNets.{net_of}
 use Rattle.net_values.specs.PlaceSets.{has}
-use Rattle.closed_sets.proofs.Below.{pair_at, apart, any_from}
+use Rattle.closed_sets.proofs.Below.{pair_at, any_from}
 use Rattle.net_class.proofs.verdict.is_marked.Goals as goal
 
 pub returns-then-initial-gt0 : goal.returns-then-initial-gt0
@@ -17,5 +17,5 @@ returns c =
     let net = net_of c.args.net.now in (
       λ never. absurd (false≢true never),
       λ some. let at = any_from net.places _ some in
-          absurd (apart _ at.2 (c.loop-p.invariant at.0 (omega (arith, at.1, c.places-p-end.ensures.value)))),
+          absurd (both_ways _ (c.loop-p.invariant at.0 (omega (arith, at.1, c.places-p-end.ensures.value))) at.2),
     )

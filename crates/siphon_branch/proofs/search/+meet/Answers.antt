@@ -1,4 +1,5 @@
 use Rattle.std.proofs.Common.{◌≡◌, ◌-◌, Result, Err, sym, ap, ◌∙◌, subst, ◌+◌, ◌<◌, ◌≤◌, List, Bool, true, false, length, get_or, set, arith, rules}
+use Rattle.std.proofs.lemmas.Bool.{both_ways}
 use Rattle.std.proofs.lemmas.Result.{err_from_is_err_and}
 use Rattle.net_values.specs.FlatNets.{net_of}
 use Rattle.net_values.specs.PlaceSets.{has}
@@ -6,7 +7,6 @@ use Rattle.closed_sets.specs.ClosedSets.{IsNonempty}
 use Rattle.closed_sets.specs.Passes.{members}
 use Rattle.siphon_branch.specs.declared.fault.SearchFault.{SearchFault}
 use Rattle.siphon_branch.specs.declared.fault.SearchFault.TheVariants.{SetLimit}
-use Rattle.closed_sets.proofs.Below.{apart}
 use Rattle.siphon_branch.specs.Classes.{HasSize}
 use Rattle.siphon_branch.specs.Met.{IsGrownFrom, Meets, Overruns}
 use Rattle.siphon_branch.proofs.Lists.{adds_sizes, on_ok_map}
@@ -16,7 +16,7 @@ use Rattle.siphon_branch.proofs.search.+meet.Goals as goal
 pub returns-then-not-branch-clause-ok : goal.returns-then-not-branch-clause-ok
 returns-then-not-branch-clause-ok t c =
     let dead : c.in_ok-is_live.field-0 ≡ false = search rules in
-    dead_meets (net_of c.args.net.now) c.args.class.now c.args.limit c.args.met.now c.requires.some (λ live. apart c.in_ok-is_live.field-0 (c.in_ok-is_live.ensures.1 live) dead) c.requires.room
+    dead_meets (net_of c.args.net.now) c.args.class.now c.args.limit c.args.met.now c.requires.some (λ live. both_ways c.in_ok-is_live.field-0 dead (c.in_ok-is_live.ensures.1 live)) c.requires.room
 
 pub returns-in_default-clause-ok : goal.returns-in_default-clause-ok
 returns-in_default-clause-ok t c =
@@ -51,7 +51,7 @@ meet-requires t c =
         (
           subst (λ (s : List Bool). IsNonempty net (has s)) (sym c.insert.ensures)
               (part_some net c.args.class.now entries c.in-Some.t i c.args.limit c.requires.class c.in-Some.ensures c.inputs-inputs.ensures.lists within c.loop-entry.part c.args.met.now c.loop-entry.met c.loop-entry.invariant),
-        (adds_sizes (MetBefore net c.args.class.now entries i) net.places c.args.met.now c.loop-entry.met c.loop-entry.invariant.meets.adds (λ list grown. grown.0.size) c.requires.sizes, c.loop-entry.invariant.meets.room),
+          (adds_sizes (MetBefore net c.args.class.now entries i) net.places c.args.met.now c.loop-entry.met c.loop-entry.invariant.meets.adds (λ list grown. grown.0.size) c.requires.sizes, c.loop-entry.invariant.meets.room),
         ),
       ),
     )

@@ -16,7 +16,7 @@ returns-then-is_empty c =
     let found = c.greatest_siphon.new.set in (
       λ never. absurd (false≢true never),
       λ live. absurd (live_empty net c.args.self.now found c.requires
-        (subst (λ (list : List Bool). IsGreatestSiphon net (has list) (has found)) c.in_ok-left.ensures c.greatest_siphon.ensures.greatest) (c.if-is_empty.ensures.0 refl) live),
+          (subst (λ (list : List Bool). IsGreatestSiphon net (has list) (has found)) c.in_ok-left.ensures c.greatest_siphon.ensures.greatest) (c.if-is_empty.ensures.0 refl) live),
     )
 
 pub returns : goal.returns
