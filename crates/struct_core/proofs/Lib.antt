@@ -1,4 +1,12 @@
 pub mod Exits
+pub mod Telling
 pub mod Refusing
 pub mod Listing
 pub mod Outcomes
+pub mod Orders
+pub mod SameNets
+pub mod TaskAnswers
+pub mod Completing
+pub mod SomeClass
+pub mod OneOutcome
+pub mod SomeOutcome

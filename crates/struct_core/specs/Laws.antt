@@ -9,7 +9,7 @@ use Rattle.incidence.specs.Semiflow.{all_columns, IsSemiflow}
 use Rattle.pnml_grammar.specs.Canon.{canon}
 use Rattle.pnml_grammar.specs.Valued.{Valued}
 use Rattle.page_flatten.specs.Rules.{BreaksNoRule}
-use Rattle.report.specs.Nodes.{place_id, transition_id}
+use Rattle.net_values.specs.Nodes.{place_id, transition_id}
 use Rattle.report.specs.Texts.{semiflows_text, sets_text}
 use Rattle.struct_core.specs.declared.order.Task.TheVariants as tasks
 use Rattle.struct_core.specs.declared.order.Budgets.{Budgets}
@@ -45,8 +45,9 @@ PrintClosedSets =
     × (TaskOutcome tasks.Traps budgets document net 0 text
     → ListsSets (codes "traps") (place_id net) (λ set. IsTrap (net_of net) (has set)) text)
 
--- `canon` of the canonical text of a valued document that breaks no rule writes that text
+-- `canon` of the canonical text of a valued document that breaks no rule writes that text, and does nothing else
 abbrev pub CanonStays : Type 0
 CanonStays =
-    (budgets : Budgets) (document : Document) (status : ℕ) (text : List ℕ) → Valued document → BreaksNoRule document
-    → Outcome (Run tasks.Canon budgets) (canon document) status text → (status ≡ 0) × (text ≡ canon document)
+    (budgets : Budgets) (document : Document) → Valued document → BreaksNoRule document
+    → Outcome (Run tasks.Canon budgets) (canon document) 0 (canon document)
+    × ((status : ℕ) (text : List ℕ) → Outcome (Run tasks.Canon budgets) (canon document) status text → (status ≡ 0) × (text ≡ canon document))

@@ -1,3 +1,5 @@
+ghost use Rattle.struct_core.specs.Completeness.{QuietRunsComplete};
+ghost use Rattle.struct_core.specs.Determined.{HasOneOutcome, HasSomeOutcome};
 ghost use Rattle.struct_core.specs.Laws.{PrintSemiflows, PrintClosedSets, CanonStays};
 
 /// Every vector that `places` and `transitions` print is a semiflow (Colom and Silva 1991).
@@ -10,7 +12,24 @@ pub fn printed_sets_are_closed()
     ensures { PrintClosedSets }
 {}
 
-/// `canon` of a canonical text writes that text, where the document breaks no rule.
+/// `canon` of a canonical text writes that text and does nothing else, where the document breaks no rule.
 pub fn canonical_text_stays()
     ensures { CanonStays }
+{}
+
+/// An order has at most one status and one text for an input.
+pub fn one_outcome()
+    ensures { HasOneOutcome }
+{}
+
+/// Every input has an outcome; for the semiflows and the bounds, where it is decided that every step of the
+/// elimination passes or that one fails first.
+pub fn some_outcome()
+    ensures { HasSomeOutcome }
+{}
+
+/// A run without faults, on a document of the profile whose net stays within the limits of the task,
+/// writes the defined text, or memory was refused.
+pub fn quiet_runs_complete()
+    ensures { QuietRunsComplete }
 {}

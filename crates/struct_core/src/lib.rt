@@ -2,14 +2,17 @@
 #![tactic(auto)]
 
 mod answer;
-mod closed;
 mod laws;
 mod order;
 mod running;
 mod semiflows;
+mod siphons;
 mod words;
 
-pub use laws::{canonical_text_stays, printed_sets_are_closed, printed_vectors_are_semiflows};
+pub use laws::{
+    canonical_text_stays, one_outcome, printed_sets_are_closed, printed_vectors_are_semiflows,
+    quiet_runs_complete, some_outcome,
+};
 pub use order::{Budgets, Order, Task};
 pub use running::run;
 pub use words::{Words, read_words};

@@ -14,6 +14,7 @@ returns-in-Err-TooLong g c =
 pub returns-in-Err-NoMemory : goal.returns-in-Err-NoMemory
 returns-in-Err-NoMemory g c =
     out_of_memory _ _ _ _ _ c.requires (c.in-Err-NoMemory.ensures.no_memory_kept c.in-Err-NoMemory.field-0-is)
+    (c.in-Err-NoMemory.ensures.no_memory c.in-Err-NoMemory.field-0-is)
 
 pub returns-in-Err : goal.returns-in-Err
 returns-in-Err g c =
