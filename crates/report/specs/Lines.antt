@@ -1,10 +1,15 @@
 -- The lines of a report. Each ends with a line feed; numbers are decimal without leading zeros.
-use Rattle.std.specs.Prelude.{ℕ, List, Bool, ◌++◌, if◌then◌else◌, codes, decimal}
-use Rattle.std.specs.List.{join_with_byte}
+use Rattle.std.specs.Prelude.{ℕ, List, Bool, true, false, ◌++◌, if◌then◌else◌, codes, decimal}
+use Rattle.std.specs.List.{flat_map, join_with_byte}
 
--- pieces with one space between
+-- pieces that begin a line, with one space between, or others after what a line begins with, each after a space
+abbrev pub spaced : Bool → List (List ℕ) → List ℕ
+spaced true pieces = join_with_byte 32 pieces
+spaced false pieces = flat_map (λ piece. codes " " ++ piece) pieces
+
+-- a line of pieces
 abbrev pub line_of : List (List ℕ) → List ℕ
-line_of pieces = join_with_byte 32 pieces ++ codes "\n"
+line_of pieces = spaced true pieces ++ codes "\n"
 
 -- a word and a number
 unfoldable pub count_line : List ℕ → ℕ → List ℕ

@@ -1,6 +1,8 @@
 -- The texts of the tasks.
-use Rattle.std.specs.Prelude.{ℕ, List, Bool, ◌++◌, codes, decimal, length, map, filter, nat_lt, slice_index}
+use Rattle.std.specs.Prelude.{ℕ, List, Bool, Option, None, Some, is_some, count_by, ◌++◌, codes, decimal, length, map, filter, nat_lt, slice_index}
 use Rattle.std.specs.List.{flat_map, range_with_len}
+use Rattle.bounds.specs.declared.place_bound.PlaceBound.{PlaceBound}
+use Rattle.bounds.specs.Listed.{kept_at, bound_of}
 use Rattle.net_class.specs.declared.membership.Class.{Class}
 use Rattle.net_values.specs.PlaceSets.{has}
 use Rattle.report.specs.Lines.{line_of, count_line, answer_line}
@@ -47,3 +49,21 @@ semiflows_text ids rows = flat_map (semiflow_line ids) rows ++ count_line (codes
 -- `siphons`, `traps`: a line for each set, and how many there are
 unfoldable pub sets_text : List ℕ → (ℕ → List ℕ) → List (List Bool) → List ℕ
 sets_text word ids sets = flat_map (set_line ids) sets ++ count_line word (length sets)
+
+-- the bound of a place, or none
+abbrev pub bound_word : Option ℕ → List ℕ
+bound_word None = codes "none"
+bound_word (Some bound) = decimal bound
+
+unfoldable pub bound_line : List ℕ → Option ℕ → List ℕ
+bound_line id bound = id ++ codes " " ++ bound_word bound ++ codes "\n"
+
+-- the lines of the first n places
+abbrev pub bound_lines : (ℕ → List ℕ) → List (Option PlaceBound) → ℕ → List ℕ
+bound_lines ids bounds n = flat_map (λ p. bound_line (ids p) (bound_of (kept_at bounds p))) (range_with_len 0 n)
+
+-- `bounds`: a line for each place, and how many of the places have a bound
+unfoldable pub bounds_text : (ℕ → List ℕ) → List (Option PlaceBound) → List ℕ
+bounds_text ids bounds =
+    bound_lines ids bounds (length bounds)
+    ++ codes "covered " ++ decimal (count_by is_some bounds) ++ codes " of " ++ decimal (length bounds) ++ codes "\n"

@@ -2,19 +2,22 @@
 //! and the status of each refusal.
 #![tactic(auto)]
 
+mod bound_texts;
 mod fault_lines;
 mod lines;
 mod net_texts;
-mod nodes;
 mod reason_words;
 mod refusal;
 mod semiflow_texts;
 mod set_texts;
 #[cfg(test)]
 mod tests;
+mod verdict_texts;
 
+pub use bound_texts::bounds_text;
 pub use fault_lines::tell;
 pub use net_texts::{check_text, class_text};
 pub use refusal::{Excess, Refusal, status};
 pub use semiflow_texts::{place_semiflows_text, transition_semiflows_text};
 pub use set_texts::{siphons_text, traps_text};
+pub use verdict_texts::commoner_text;

@@ -1,12 +1,12 @@
-ghost use Rattle.std.specs.Prelude.{◌≡◌, ◌++◌, ◌<◌, All, IfOk, OnOk, codes, length};
-ghost use Rattle.std.specs.List.{flat_map, join_with_byte};
+ghost use Rattle.std.specs.Prelude.{◌≡◌, true, ◌++◌, ◌<◌, All, IfOk, OnOk, codes, length};
+ghost use Rattle.std.specs.List.{flat_map};
 ghost use Rattle.net_values.specs.FlatNets.{net_of};
-ghost use Rattle.report.specs.Nodes.{count_of, id_of, place_id, transition_id};
+ghost use Rattle.net_values.specs.Nodes.{node_count, node_id, place_id, transition_id};
+ghost use Rattle.report.specs.Lines.{spaced};
 ghost use Rattle.report.specs.Texts.{semiflow_line, semiflows_text as semiflow_report, term, terms};
 
 use crate::lines::{push_count, push_space};
-use crate::nodes::Nodes;
-use net_values::{FlatNet, NoMemory, Rows, Text, Vector};
+use net_values::{FlatNet, NoMemory, NodeKind, Rows, Text, Vector};
 use std::alloc::Global;
 
 /// The least entry that a line tells.
@@ -18,7 +18,7 @@ pub fn place_semiflows_text(alloc: Global, net: &FlatNet, rows: &Rows) -> Result
     requires { All (λ row. length row ≡ (net_of net.now).places) rows.now }
     ensures { IfOk result (λ text. text ≡ semiflow_report (place_id net.now) rows.now) }
 {
-    semiflows_text(alloc, Nodes::Places, net, rows)
+    semiflows_text(alloc, NodeKind::Place, net, rows)
 }
 
 /// The text of `transitions`: likewise for semiflows of transitions, with the ids of the transitions.
@@ -30,16 +30,21 @@ pub fn transition_semiflows_text(
     requires { All (λ row. length row ≡ (net_of net.now).transitions) rows.now }
     ensures { IfOk result (λ text. text ≡ semiflow_report (transition_id net.now) rows.now) }
 {
-    semiflows_text(alloc, Nodes::Transitions, net, rows)
+    semiflows_text(alloc, NodeKind::Transition, net, rows)
 }
 
 #[tactic(auto, unfolding(crate::specs::Texts::semiflows_text))]
-fn semiflows_text(alloc: Global, nodes: Nodes, net: &FlatNet, rows: &Rows) -> Result<Text, NoMemory>
-    requires { All (λ row. length row ≡ count_of nodes net.now) rows.now }
-    ensures { IfOk result (λ text. text ≡ semiflow_report (id_of nodes net.now) rows.now) }
+fn semiflows_text(
+    alloc: Global,
+    kind: NodeKind,
+    net: &FlatNet,
+    rows: &Rows,
+) -> Result<Text, NoMemory>
+    requires { All (λ row. length row ≡ node_count kind net.now) rows.now }
+    ensures { IfOk result (λ text. text ≡ semiflow_report (node_id kind net.now) rows.now) }
 {
     let mut text = Text::new(alloc);
-    push_semiflows(&mut text, nodes, net, rows.as_slice())?;
+    push_semiflows(&mut text, kind, net, rows.as_slice())?;
     push_count(&mut text, "semiflows", rows.len())?;
     Ok(text)
 }
@@ -47,45 +52,50 @@ fn semiflows_text(alloc: Global, nodes: Nodes, net: &FlatNet, rows: &Rows) -> Re
 /// Appends the lines of semiflows.
 fn push_semiflows(
     text: &mut Text,
-    nodes: Nodes,
+    kind: NodeKind,
     net: &FlatNet,
     rows: &[Vector],
 ) -> Result<(), NoMemory>
-    requires { All (λ row. length row ≡ count_of nodes net.now) rows.now }
-    ensures { let line = semiflow_line (id_of nodes net.now) in
+    requires { All (λ row. length row ≡ node_count kind net.now) rows.now }
+    ensures { let line = semiflow_line (node_id kind net.now) in
         OnOk result (text.new ≡ text.old ++ flat_map line rows.now) }
 {
     for row in rows {
-        push_semiflow(text, nodes, net, row)?;
+        push_semiflow(text, kind, net, row)?;
     }
     Ok(())
 }
 
 /// Appends the line of a semiflow.
-fn push_semiflow(text: &mut Text, nodes: Nodes, net: &FlatNet, row: &Vector) -> Result<(), NoMemory>
-    requires { length row.now ≡ count_of nodes net.now }
-    ensures { OnOk result (text.new ≡ text.old ++ semiflow_line (id_of nodes net.now) row.now) }
+fn push_semiflow(
+    text: &mut Text,
+    kind: NodeKind,
+    net: &FlatNet,
+    row: &Vector,
+) -> Result<(), NoMemory>
+    requires { length row.now ≡ node_count kind net.now }
+    ensures { OnOk result (text.new ≡ text.old ++ semiflow_line (node_id kind net.now) row.now) }
 {
-    push_terms(text, nodes, net, row.as_slice())?;
+    push_terms(text, kind, net, row.as_slice())?;
     text.push("\n")
 }
 
 /// Appends the positive entries, with one space between.
 fn push_terms(
     text: &mut Text,
-    nodes: Nodes,
+    kind: NodeKind,
     net: &FlatNet,
     entries: &[u128],
 ) -> Result<(), NoMemory>
-    requires { length entries.now ≡ count_of nodes net.now }
-    ensures { let pieces = terms (id_of nodes net.now) entries.now in
-        OnOk result (text.new ≡ text.old ++ join_with_byte 32 pieces) }
+    requires { length entries.now ≡ node_count kind net.now }
+    ensures { let pieces = terms (node_id kind net.now) entries.now in
+        OnOk result (text.new ≡ text.old ++ spaced true pieces) }
 {
     let mut is_first = true;
     for i in 0..entries.len() {
         if entries[i] >= LEAST_TOLD {
             push_space(text, is_first)?;
-            push_term(text, entries[i], nodes.id(net, i))?;
+            push_term(text, entries[i], net.node_id(kind, i).as_str())?;
             is_first = false;
         }
     }

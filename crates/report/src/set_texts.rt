@@ -1,7 +1,8 @@
 ghost use Rattle.std.specs.Prelude.{◌≡◌, ◌++◌, All, IfOk, OnOk, codes, length};
-ghost use Rattle.std.specs.List.{flat_map, join_with_byte};
+ghost use Rattle.std.specs.List.{flat_map};
 ghost use Rattle.net_values.specs.FlatNets.{net_of};
-ghost use Rattle.report.specs.Nodes.{place_id};
+ghost use Rattle.net_values.specs.Nodes.{place_id};
+ghost use Rattle.report.specs.Lines.{spaced};
 ghost use Rattle.report.specs.Texts.{members, set_line, sets_text as set_report};
 
 use crate::lines::{push_count, push_space};
@@ -53,17 +54,23 @@ fn push_set(text: &mut Text, net: &FlatNet, set: &PlaceSet) -> Result<(), NoMemo
     requires { length set.now ≡ (net_of net.now).places }
     ensures { OnOk result (text.new ≡ text.old ++ set_line (place_id net.now) set.now) }
 {
-    push_members(text, net, set)?;
+    push_members(text, net, set, true)?;
     text.push("\n")
 }
 
-/// Appends the ids of the places of a set, with one space between.
-fn push_members(text: &mut Text, net: &FlatNet, set: &PlaceSet) -> Result<(), NoMemory>
+/// Appends the ids of the places of a set, with one space between, and where they don't begin the line also
+/// one in front of them.
+pub(crate) fn push_members(
+    text: &mut Text,
+    net: &FlatNet,
+    set: &PlaceSet,
+    begins: bool,
+) -> Result<(), NoMemory>
     requires { length set.now ≡ (net_of net.now).places }
     ensures { let pieces = members (place_id net.now) set.now in
-        OnOk result (text.new ≡ text.old ++ join_with_byte 32 pieces) }
+        OnOk result (text.new ≡ text.old ++ spaced begins pieces) }
 {
-    let mut is_first = true;
+    let mut is_first = begins;
     for p in 0..set.size() {
         if set.contains(p) {
             push_space(text, is_first)?;

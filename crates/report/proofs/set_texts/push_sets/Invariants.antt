@@ -1,6 +1,6 @@
 use Rattle.std.proofs.Common.{◌≡◌, ◌++◌, take}
 use Rattle.std.specs.List.{flat_map}
-use Rattle.report.specs.Nodes.{place_id}
+use Rattle.net_values.specs.Nodes.{place_id}
 use Rattle.report.specs.Texts.{set_line}
 use Rattle.report.proofs.set_texts.push_sets.Given as goal
 

@@ -1,0 +1,51 @@
+ghost use Rattle.std.specs.Prelude.{◌≡◌, ◌↔◌, ◌++◌, IsTrue, IfOk, OnOk};
+ghost use Rattle.net_values.specs.FlatNets.{net_of};
+ghost use Rattle.net_values.specs.Nodes.{place_id};
+ghost use Rattle.report.specs.VerdictTexts.{IsCommonerText, IsVerdictOn, ProvesDeadlockFree, verdict_lines};
+
+use crate::lines::push_answer;
+use crate::set_texts::push_members;
+use net_class::{Verdict, class};
+use net_values::{FlatNet, NoMemory, Text};
+use std::alloc::Global;
+
+/// The text of `commoner`: whether Commoner's condition holds, for a no the ids of the places of the siphon,
+/// and last whether a yes proves that no reachable marking is dead, which it does in an ordinary net with a
+/// transition.
+pub fn commoner_text(alloc: Global, net: &FlatNet, verdict: &Verdict) -> Result<Text, NoMemory>
+    requires { IsVerdictOn (net_of net.now) verdict.now }
+    ensures { IfOk result (IsCommonerText (net_of net.now) (place_id net.now) verdict.now) }
+{
+    let mut text = Text::new(alloc);
+    push_verdict(&mut text, net, verdict)?;
+    if proves_deadlock_free(net, verdict) {
+        text.push("deadlock-free proved\n")?;
+    } else {
+        text.push("deadlock-free unknown\n")?;
+    }
+    Ok(text)
+}
+
+/// Appends the lines of a verdict.
+#[tactic(auto, unfolding(crate::specs::VerdictTexts::siphon_line))]
+fn push_verdict(text: &mut Text, net: &FlatNet, verdict: &Verdict) -> Result<(), NoMemory>
+    requires { IsVerdictOn (net_of net.now) verdict.now }
+    ensures { OnOk result (text.new ≡ text.old ++ verdict_lines (place_id net.now) verdict.now) }
+{
+    match verdict {
+        Verdict::Yes => push_answer(text, "commoner", true),
+        Verdict::No(siphon) => {
+            push_answer(text, "commoner", false)?;
+            text.push("siphon")?;
+            push_members(text, net, siphon, false)?;
+            text.push("\n")
+        }
+    }
+}
+
+/// Whether a verdict proves that no reachable marking is dead.
+fn proves_deadlock_free(net: &FlatNet, verdict: &Verdict) -> bool
+    ensures { IsTrue result ↔ ProvesDeadlockFree (net_of net.now) verdict.now }
+{
+    matches!(verdict, Verdict::Yes) && net.transitions() > 0 && class(net).ordinary
+}
