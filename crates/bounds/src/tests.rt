@@ -2,7 +2,7 @@ use super::*;
 use incidence::Incidence;
 use net_values::FlatNet;
 use semiflow_elim::minimal_semiflows;
-use small_nets::{Arc, net_with};
+use small_nets::{Arc, CHAIN, CYCLE, MUTEX, SCALE, net_with};
 use std::alloc::Global;
 use std::process::Abort;
 use std::test::Fail;
@@ -17,37 +17,19 @@ struct BoundedNet {
     answer: Result<&'static [Option<(i128, usize)>], usize>,
 }
 
-const CHAIN: &[Arc] = &[(0, 0, -1), (1, 0, 1 << 63), (1, 1, -1), (2, 1, 1 << 63)];
-
-/// The places idle1, crit1, idle2, crit2 and lock.
-const MUTEX: &[Arc] = &[
-    (0, 0, -1),
-    (4, 0, -1),
-    (1, 0, 1),
-    (1, 1, -1),
-    (0, 1, 1),
-    (4, 1, 1),
-    (2, 2, -1),
-    (4, 2, -1),
-    (3, 2, 1),
-    (3, 3, -1),
-    (2, 3, 1),
-    (4, 3, 1),
-];
-
 const NETS: [BoundedNet; 8] = [
     BoundedNet {
         name: "cycle",
         tokens: &[1, 0],
         transitions: 2,
-        arcs: &[(0, 0, -1), (1, 0, 1), (1, 1, -1), (0, 1, 1)],
+        arcs: CYCLE,
         answer: Ok(&[Some((1, 0)), Some((1, 0))]),
     },
     BoundedNet {
         name: "scale",
         tokens: &[5, 0],
         transitions: 2,
-        arcs: &[(0, 0, -2), (1, 0, 3), (1, 1, -3), (0, 1, 2)],
+        arcs: SCALE,
         answer: Ok(&[Some((5, 0)), Some((7, 0))]),
     },
     BoundedNet {

@@ -13,7 +13,8 @@ mod tests;
 pub use closed::{first_open_transition, is_siphon, is_trap};
 pub use greatest::{greatest_siphon, greatest_trap};
 pub use laws::{
-    commoner_excludes_dead_markings, dead_markings_empty_a_siphon, each_set_has_a_greatest_siphon, empty_siphons_stay_empty, minimal_siphons_are_in_all,
-    traps_are_siphons_reversed, traps_stay_marked, unions_of_siphons_are_siphons,
+    commoner_excludes_dead_markings, dead_markings_empty_a_siphon, each_set_has_a_greatest_siphon,
+    empty_siphons_stay_empty, minimal_siphons_are_in_all, traps_are_siphons_reversed,
+    traps_stay_marked, unions_of_siphons_are_siphons,
 };
 pub use minimal::is_minimal_siphon;

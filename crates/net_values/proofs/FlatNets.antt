@@ -25,6 +25,12 @@ still_weights h keeps = record {
   narrow = λ p t. omega (arith, h.narrow p t, keeps p t);
 }
 
+abbrev pub inputs_of : FlatTransition → List WeightedPlace
+inputs_of transition = transition.inputs
+
+abbrev pub outputs_of : FlatTransition → List WeightedPlace
+outputs_of transition = transition.outputs
+
 module _ (side : FlatTransition → List WeightedPlace) where
   abbrev weights : List FlatTransition → ℕ → ℕ → ℕ
   weights transitions p t = weight_at (side (get_or transitions t (bare []))) p
@@ -34,6 +40,11 @@ module _ (side : FlatTransition → List WeightedPlace) where
   read_narrow places arcs transitions t p transition h few within read =
       let same : transition ≡ get_or transitions t (bare []) = get_or_read transitions t transition within read (bare []) in
       rw same (few_tokens h few p t)
+
+  -- a transition that was read has room for the weight of an arc more
+  pub room_for_arc : (places arcs : ℕ) (transitions : List FlatTransition) (t p : ℕ) (transition : FlatTransition) (weight : ℕ) → AreWeights places arcs (weights transitions) → arcs ≤ MAX_ARCS → t < length transitions → transition ≡ get_or transitions t transition → weight < 2 ^ 64 → weight_at (side transition) p + weight < 2 ^ 128
+  room_for_arc places arcs transitions t p transition weight h few within read fits =
+      omega (arith, read_narrow places arcs transitions t p transition h few within read)
 
   adds_here : (transitions : List FlatTransition) (t p weight : ℕ) (old new : FlatTransition) → t < length transitions → old ≡ get_or transitions t old → AddsAt (side old) (side new) p weight → (q : ℕ) → weights (set transitions t new) q t ≡ weights transitions q t + (if q == p && t == t then weight else 0)
   adds_here transitions t p weight old new within read adds q =
@@ -94,8 +105,8 @@ pub input_added : (lists : NetLists) (p t weight : ℕ) (old : FlatTransition) (
 input_added lists p t weight old column within read adds =
     let new : FlatTransition = record { id = old.id; inputs = column; outputs = old.outputs } in
     record {
-      pre = adds_one (λ transition. transition.inputs) lists.transitions t p weight old new within read adds;
-      post = keeps_all (λ transition. transition.outputs) lists.transitions t old new within read refl;
+      pre = adds_one inputs_of lists.transitions t p weight old new within read adds;
+      post = keeps_all outputs_of lists.transitions t old new within read refl;
       nodes = record { places = refl; transitions = ids_kept lists.transitions t old new within read refl };
       arcs = refl;
     }
@@ -104,8 +115,8 @@ pub output_added : (lists : NetLists) (t p weight : ℕ) (old : FlatTransition) 
 output_added lists t p weight old column within read adds =
     let new : FlatTransition = record { id = old.id; inputs = old.inputs; outputs = column } in
     record {
-      pre = keeps_all (λ transition. transition.inputs) lists.transitions t old new within read refl;
-      post = adds_one (λ transition. transition.outputs) lists.transitions t p weight old new within read adds;
+      pre = keeps_all inputs_of lists.transitions t old new within read refl;
+      post = adds_one outputs_of lists.transitions t p weight old new within read adds;
       nodes = record { places = refl; transitions = ids_kept lists.transitions t old new within read refl };
       arcs = refl;
     }
@@ -157,6 +168,6 @@ place_keeps lists id initial = (λ q u. refl, λ q u. refl)
 
 pub transition_keeps : (lists : NetLists) (id : List ℕ) → Keeps (net_of lists).pre (net_of (with_transition lists id)).pre × Keeps (net_of lists).post (net_of (with_transition lists id)).post
 transition_keeps lists id = (
-  keeps_bare (λ (transition : FlatTransition). transition.inputs) lists.transitions (bare id) refl,
-  keeps_bare (λ (transition : FlatTransition). transition.outputs) lists.transitions (bare id) refl,
+  keeps_bare inputs_of lists.transitions (bare id) refl,
+  keeps_bare outputs_of lists.transitions (bare id) refl,
 )

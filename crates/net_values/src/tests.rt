@@ -63,6 +63,21 @@ fn nets_add_parallel_arcs_and_fire_within_the_limits(rt: HostRuntime) -> Result<
 }
 
 #[test]
+fn nodes_are_counted_and_named_by_their_kind(rt: HostRuntime) -> Result<(), Fail> {
+    let alloc = rt.alloc();
+    let net = ring(&rt, alloc)?;
+    for (kind, other, id) in [
+        (NodeKind::Place, NodeKind::Transition, "q"),
+        (NodeKind::Transition, NodeKind::Place, "u"),
+    ] {
+        assert_eq!(rt; kind.other(), other);
+        assert!(rt; net.nodes(kind) == 2);
+        assert_eq!(rt; net.node_id(kind, 1).as_str(), id);
+    }
+    Ok(())
+}
+
+#[test]
 fn firing_never_makes_a_count_wide(rt: HostRuntime) -> Result<(), Fail> {
     let alloc = rt.alloc();
     let mut net = FlatNet::new(alloc);
@@ -136,6 +151,18 @@ fn rows_and_sets_are_sorted_and_cut(rt: HostRuntime) -> Result<(), Fail> {
     let most = sets.get(1);
     assert!(rt; most.size() == 2 && most.contains(0) && !most.contains(1));
     assert!(rt; least.is_subset(&least) && !least.is_subset(most) && !most.is_subset(&least));
+    Ok(())
+}
+
+#[test]
+fn a_set_and_its_complement_share_no_place(rt: HostRuntime) -> Result<(), Fail> {
+    let alloc = rt.alloc();
+    let mut set = PlaceSet::new(alloc, 2)?;
+    set.insert(0);
+    let others = set.complement(alloc)?;
+    assert!(rt; others.size() == 2 && !others.contains(0) && others.contains(1));
+    set.copy_from(&others);
+    assert!(rt; set == others);
     Ok(())
 }
 

@@ -1,12 +1,12 @@
 ghost use Rattle.std.specs.Prelude.{◌≡◌};
 ghost use Rattle.std.specs.List.{prefix_len};
 ghost use Rattle.std.specs.Str.Parse.{AllDigits};
-ghost use Rattle.pnml_grammar.specs.Characters.{is_space};
 ghost use Rattle.pnml_grammar.specs.Runs.{passed, beyond};
 ghost use Rattle.pnml_grammar.specs.Numerals.{is_digit, is_white, numeral, number_in};
 ghost use Rattle.pnml_decode.specs.Numbers.{number_of, narrow_if_any};
 
 use pnml_grammar::Context;
+use pnml_token::{is_space, past_space};
 
 /// White space only.
 pub(crate) fn is_white(bytes: &[u8]) -> bool
@@ -49,6 +49,7 @@ fn number(digits: &[u8]) -> Option<u64>
 }
 
 /// The digits at the front, and what follows them.
+#[tactic(auto, using(pnml_token::proofs::Prefixes::cut_inside))]
 fn split_digits(bytes: &[u8]) -> (&[u8], &[u8])
     ensures digits { result.0.now ≡ passed is_digit bytes.now }
     ensures rest { result.1.now ≡ beyond is_digit bytes.now }
@@ -64,24 +65,4 @@ fn digits_length(bytes: &[u8]) -> usize
         .iter()
         .take_while(|byte| byte.is_ascii_digit())
         .count()
-}
-
-/// What follows the white space at the front.
-fn past_space(bytes: &[u8]) -> &[u8]
-    ensures { result.now ≡ beyond is_space bytes.now }
-{
-    bytes.split_at(space_length(bytes)).1
-}
-
-fn space_length(bytes: &[u8]) -> usize
-    ensures { result ≡ prefix_len is_space bytes.now }
-{
-    bytes.iter().take_while(|byte| is_space(**byte)).count()
-}
-
-/// White space (XML 1.0, production 3, S).
-fn is_space(byte: u8) -> bool
-    ensures { result ≡ is_space byte }
-{
-    byte == b'\t' || byte == b'\n' || byte == b'\r' || byte == b' '
 }

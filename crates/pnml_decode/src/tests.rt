@@ -12,7 +12,19 @@ use std::test::Fail;
 const OPENING: &[u8] =
     b"<pnml xmlns='http://www.pnml.org/version-2009/grammar/pnml'><net id='n' type='http://www.pnml.org/version-2009/grammar/ptnet'>";
 
-/// Its end.
+/// The tag of a root, and fronts that go on to a place, an arc and the text of an initial marking in a net.
+const ROOT: &[u8] = b"<pnml xmlns='http://www.pnml.org/version-2009/grammar/pnml'>";
+
+const PLACE: &[u8] =
+    b"<pnml xmlns='http://www.pnml.org/version-2009/grammar/pnml'><net id='n' type='http://www.pnml.org/version-2009/grammar/ptnet'><place id='p'>";
+
+const ARC: &[u8] =
+    b"<pnml xmlns='http://www.pnml.org/version-2009/grammar/pnml'><net id='n' type='http://www.pnml.org/version-2009/grammar/ptnet'><arc id='a' source='p' target='t'>";
+
+const MARKING: &[u8] =
+    b"<pnml xmlns='http://www.pnml.org/version-2009/grammar/pnml'><net id='n' type='http://www.pnml.org/version-2009/grammar/ptnet'><place id='p'><initialMarking><text>";
+
+/// The end of a document.
 const CLOSING: &[u8] = b"</net></pnml>";
 
 /// The fault of the bytes, if they spell no document.
@@ -31,34 +43,42 @@ fn joined(alloc: Global, first: &[u8], second: &[u8]) -> Result<Vec<u8>, AllocEr
     Ok(text)
 }
 
-/// The fault is found after the head and what comes before it, for its reason.
-fn check_fault(
+/// Each fault is found after the head and what comes before it, for its reason.
+fn check_faults(
     rt: &impl Abort,
     alloc: Global,
     head: &[u8],
-    before: &[u8],
-    after: &[u8],
-    reason: Reason,
+    rows: &[(&[u8], &[u8], Reason)],
 ) -> Result<(), AllocError> {
-    let front = joined(alloc, head, before)?;
-    let text = joined(alloc, front.as_slice(), after)?;
-    let wanted = Some(DocFault::At(front.len() as u64, reason));
-    assert_eq!(rt;
-        fault(alloc, text.as_slice()),
-        wanted,
-        "{before:?} {after:?}"
-    );
+    for row in rows.iter() {
+        let front = joined(alloc, head, row.0)?;
+        let text = joined(alloc, front.as_slice(), row.1)?;
+        let wanted = Some(DocFault::At(front.len() as u64, row.2));
+        assert_eq!(rt;
+            fault(alloc, text.as_slice()),
+            wanted,
+            "{:?} {:?}",
+            row.0,
+            row.1
+        );
+    }
     Ok(())
 }
 
 #[test]
 fn the_first_fault_is_named(rt: HostRuntime) -> Result<(), Fail> {
-    for row in faulty::FROM_THE_FRONT.iter() {
-        check_fault(&rt, rt.alloc(), b"", row.0, row.1, row.2)?;
-    }
-    for row in faulty::IN_A_NET.iter() {
-        check_fault(&rt, rt.alloc(), OPENING, row.0, row.1, row.2)?;
-    }
+    check_faults(&rt, rt.alloc(), b"", faulty::FROM_THE_FRONT.as_slice())?;
+    check_faults(&rt, rt.alloc(), ROOT, faulty::IN_THE_ROOT.as_slice())?;
+    check_faults(
+        &rt,
+        rt.alloc(),
+        whole::DOCUMENTS[0],
+        faulty::AFTER_THE_ROOT.as_slice(),
+    )?;
+    check_faults(&rt, rt.alloc(), OPENING, faulty::IN_A_NET.as_slice())?;
+    check_faults(&rt, rt.alloc(), PLACE, faulty::IN_A_PLACE.as_slice())?;
+    check_faults(&rt, rt.alloc(), MARKING, faulty::IN_A_MARKING.as_slice())?;
+    check_faults(&rt, rt.alloc(), ARC, faulty::IN_AN_ARC.as_slice())?;
     Ok(())
 }
 

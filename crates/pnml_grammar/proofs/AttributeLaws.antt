@@ -14,7 +14,7 @@ use Rattle.pnml_grammar.specs.Resolving.{literal, resolved, text_of, value_of}
 use Rattle.pnml_grammar.specs.Reading.{attribute_of, attributes_of, are_new, raw_attribute_name, distinct_attributes_of}
 use Rattle.pnml_grammar.proofs.RunLaws.{bind_some, chosen, some_is}
 use Rattle.pnml_grammar.proofs.ValueLaws.{resolves_is, resolves_found}
-use Rattle.pnml_grammar.proofs.TextLaws.{text_again, text_found, BeginsAscii, utf8_split, utf8_past, space_begins, utf8_after_space}
+use Rattle.pnml_grammar.proofs.TextLaws.{text_again, text_found, BeginsAscii, space_begins, IsCutAtAscii, cut_after_space, utf8_is_cut}
 
 -- ---- the parts of what is written are text
 
@@ -25,24 +25,30 @@ pub record HasTexts (w : Written) : Type 0 where
 pub quote_is_ascii : (q : ℕ) → (q ≡ 34) ⊎ (q ≡ 39) → q < 128
 quote_is_ascii q h = grind (arith, nat_tests)
 
-pub parts_again : (gap name before after : List ℕ) (q : ℕ) (body rest : List ℕ)
+parts_again : (gap name before after : List ℕ) (q : ℕ) (body rest : List ℕ)
     → (gap ++ (name ++ (before ++ (61 ∷ (after ++ (q ∷ (body ++ (q ∷ [])))))))) ++ rest
     ≡ gap ++ (name ++ (before ++ (61 ∷ (after ++ (q ∷ (body ++ (q ∷ rest)))))))
 parts_again gap name before after q body rest = simp append_assoc
 
-written_texts : (w : Written) (rest : List ℕ) → IsWritten w → IsUtf8 (written w ++ rest) → HasTexts w × IsUtf8 rest
-written_texts w rest is h =
+-- a text with an attribute in front is cut into its name, what is between its quotes, and what follows it
+pub written_cut : (Property : List ℕ → Type 0) → IsCutAtAscii Property → (w : Written) (rest : List ℕ) → IsWritten w → Property (written w ++ rest)
+    → Property w.name × Property w.body × Property rest
+written_cut Property cut w rest is h =
     let q = w.quote in
     let t2 = w.body ++ (q ∷ rest) in
     let t1 = w.after ++ (q ∷ t2) in
     let t0 = w.before ++ (61 ∷ t1) in
     let ascii = quote_is_ascii q is.quote in
-    let whole : IsUtf8 (w.gap ++ (w.name ++ t0)) = subst IsUtf8 (parts_again w.gap w.name w.before w.after q w.body rest) h in
-    let named = utf8_split w.name t0 (space_begins w.before (61 ∷ t1) is.before (omega arith)) (utf8_after_space w.gap (w.name ++ t0) is.gap whole) in
-    let after_equals = utf8_past 61 t1 (omega arith) (utf8_after_space w.before (61 ∷ t1) is.before named.1) in
-    let inside = utf8_past q t2 ascii (utf8_after_space w.after (q ∷ t2) is.after after_equals) in
-    let valued = utf8_split w.body (q ∷ rest) ascii inside in
-    (record { name = named.0; body = valued.0 }, utf8_past q rest ascii valued.1)
+    let after_space = cut_after_space Property cut in
+    let whole : Property (w.gap ++ (w.name ++ t0)) = subst Property (parts_again w.gap w.name w.before w.after q w.body rest) h in
+    let named = cut.before w.name t0 (space_begins w.before (61 ∷ t1) is.before (omega arith)) (after_space w.gap (w.name ++ t0) is.gap whole) in
+    let after_equals = cut.past 61 t1 (omega arith) (after_space w.before (61 ∷ t1) is.before named.1) in
+    let inside = cut.past q t2 ascii (after_space w.after (q ∷ t2) is.after after_equals) in
+    let valued = cut.before w.body (q ∷ rest) ascii inside in
+    (named.0, valued.0, cut.past q rest ascii valued.1)
+
+written_texts : (w : Written) (rest : List ℕ) → IsWritten w → IsUtf8 (written w ++ rest) → HasTexts w × IsUtf8 rest
+written_texts w rest is h = let parts = written_cut IsUtf8 utf8_is_cut w rest is h in (record { name = parts.0; body = parts.1 }, parts.2)
 
 pub writtens_texts : (ws : List Written) (rest : List ℕ) → AllByRecursion IsWritten ws → IsUtf8 (flat_map written ws ++ rest) → AllByRecursion HasTexts ws × IsUtf8 rest
 writtens_texts [] rest each h = (tt, h)

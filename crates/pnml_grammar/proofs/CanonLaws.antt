@@ -5,7 +5,7 @@ use Rattle.pnml_grammar.specs.Tokens.{first_offset}
 use Rattle.pnml_grammar.specs.Documents.{DocBytes}
 use Rattle.pnml_grammar.specs.Canon.{canon}
 use Rattle.pnml_grammar.specs.CanonicalTexts.{SpellTheirDocuments, TellDocumentsApart}
-use Rattle.pnml_grammar.proofs.FaultLaws.{tokens_are_legal}
+use Rattle.pnml_grammar.proofs.ReasonLaws.{tokens_are_legal}
 use Rattle.pnml_grammar.proofs.DocumentLaws.{read_spells, spells_one}
 use Rattle.pnml_grammar.proofs.CanonTokens.{canon_tokens}
 use Rattle.pnml_grammar.proofs.CanonSpelling.{canon_spelled}

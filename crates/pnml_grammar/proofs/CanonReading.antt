@@ -23,13 +23,7 @@ use Rattle.pnml_grammar.proofs.CanonItems.{first_named}
 use Rattle.pnml_grammar.proofs.CanonPages.{items_counts, root_frame, around, state_of, items_lead}
 
 limits_within : (items : List Item) → IsWithinLimits items → IsWithin (no_counts plus items_counts items)
-limits_within items limits = record {
-  places = omega (arith, limits.places);
-  transitions = omega (arith, limits.transitions);
-  arcs = omega (arith, limits.arcs);
-  references = omega (arith, limits.references);
-  pages = omega (arith, limits.pages);
-}
+limits_within items limits = omega (arith, limits)
 
 -- ---- the net
 

@@ -1,6 +1,6 @@
 -- What children give, one after the other, and how many elements they count: both are associative, with an
 -- empty one on either side. Whether an element has few of each is a matter of lengths only.
-use Rattle.std.proofs.Common.{◌≡◌, ◌+◌, ◌≤◌, append_assoc, append-nil, length, length-append, arith, add_assoc, add-zero, zero-add}
+use Rattle.std.proofs.Common.{◌≡◌, ◌+◌, ◌≤◌, ◌++◌, append_assoc, append-nil, length, length-append, arith, add_assoc, add-zero, zero-add}
 use Rattle.net_values.specs.declared.limits.TheConstants.{MAX_NAME_BYTES}
 use Rattle.pnml_grammar.specs.Contents.{Content, nothing, ◌then◌}
 use Rattle.pnml_grammar.specs.Counts.{Counts, no_counts, ◌plus◌, IsWithin}
@@ -61,13 +61,7 @@ plus_assoc a b c = λ i. record {
 
 -- fewer are within the limits too
 pub within_front : (a b : Counts) → IsWithin (a plus b) → IsWithin a
-within_front a b within = record {
-  places = omega (arith, within.places);
-  transitions = omega (arith, within.transitions);
-  arcs = omega (arith, within.arcs);
-  references = omega (arith, within.references);
-  pages = omega (arith, within.pages);
-}
+within_front a b within = omega (arith, within)
 
 -- ---- few of each
 
@@ -80,42 +74,33 @@ pub record HaveFew (a b : Content) : Type 0 where
   pub bytes : length a.bytes + length b.bytes ≤ MAX_NAME_BYTES
   pub numerals : length a.numerals + length b.numerals ≤ 1
 
-pub few_parts : (a b : Content) → HasFew (a then b) → HaveFew a b
-few_parts a b few = record {
-  nets = omega (arith, few.nets, length-append a.nets b.nets);
-  names = omega (arith, few.names, length-append a.names b.names);
-  numbers = omega (arith, few.numbers, length-append a.numbers b.numbers);
-  texts = omega (arith, few.texts, length-append a.texts b.texts);
-  bytes = omega (arith, few.bytes, length-append a.bytes b.bytes);
-  numerals = omega (arith, few.numerals, length-append a.numerals b.numerals);
+-- what is given one after the other is as long as both
+record HasLengths (a b : Content) : Type 0 where
+  nets : length (a.nets ++ b.nets) ≡ length a.nets + length b.nets
+  names : length (a.names ++ b.names) ≡ length a.names + length b.names
+  numbers : length (a.numbers ++ b.numbers) ≡ length a.numbers + length b.numbers
+  texts : length (a.texts ++ b.texts) ≡ length a.texts + length b.texts
+  bytes : length (a.bytes ++ b.bytes) ≡ length a.bytes + length b.bytes
+  numerals : length (a.numerals ++ b.numerals) ≡ length a.numerals + length b.numerals
+
+lengths : (a b : Content) → HasLengths a b
+lengths a b = record {
+  nets = length-append a.nets b.nets;
+  names = length-append a.names b.names;
+  numbers = length-append a.numbers b.numbers;
+  texts = length-append a.texts b.texts;
+  bytes = length-append a.bytes b.bytes;
+  numerals = length-append a.numerals b.numerals;
 }
+
+pub few_parts : (a b : Content) → HasFew (a then b) → HaveFew a b
+few_parts a b few = omega (arith, few, lengths a b)
 
 pub few_from : (a b : Content) → HaveFew a b → HasFew (a then b)
-few_from a b few = record {
-  nets = omega (arith, few.nets, length-append a.nets b.nets);
-  names = omega (arith, few.names, length-append a.names b.names);
-  numbers = omega (arith, few.numbers, length-append a.numbers b.numbers);
-  texts = omega (arith, few.texts, length-append a.texts b.texts);
-  bytes = omega (arith, few.bytes, length-append a.bytes b.bytes);
-  numerals = omega (arith, few.numerals, length-append a.numerals b.numerals);
-}
+few_from a b few = omega (arith, few, lengths a b)
 
 pub few_front : (a b : Content) → HasFew (a then b) → HasFew a
-few_front a b few = let parts = few_parts a b few in record {
-  nets = omega (arith, parts.nets);
-  names = omega (arith, parts.names);
-  numbers = omega (arith, parts.numbers);
-  texts = omega (arith, parts.texts);
-  bytes = omega (arith, parts.bytes);
-  numerals = omega (arith, parts.numerals);
-}
+few_front a b few = omega (arith, few_parts a b few)
 
 pub few_nothing : HasFew nothing
-few_nothing = record {
-  nets = omega arith;
-  names = omega arith;
-  numbers = omega arith;
-  texts = omega arith;
-  bytes = omega arith;
-  numerals = omega arith;
-}
+few_nothing = omega arith

@@ -56,14 +56,7 @@ outside_gives none each = refl
 outside_gives (node and nodes) each = ap₂ ◌then◌ (outside_gives_one node each.0) (outside_gives nodes each.1)
 
 few_nets : (nets : List NetTree) (net : NetTree) → nets ≡ net ∷ [] → HasFew (record nothing { nets = nets })
-few_nets nets net one = let long : length nets ≡ 1 = ap length one in record {
-  nets = omega arith;
-  names = omega arith;
-  numbers = omega arith;
-  texts = omega arith;
-  bytes = omega arith;
-  numerals = omega arith;
-}
+few_nets nets net one = omega (arith, ap length one)
 
 -- ---- the declaration in front
 
@@ -104,7 +97,7 @@ spells_read document list spells =
 -- ---- what is read represents open elements
 
 pub reached_spot : (list : List Token) (state : State) → reached list ≡ Some state → (spot : Spot) × IsAfter spot list × (state_of spot ≡ state)
-reached_spot list state e = let occurs = reached_occurs list state e in (occurs.spot, occurs.beyond, occurs.leads)
+reached_spot list state e = let occurs = reached_occurs list state e in (occurs.spot, occurs.after, occurs.leads)
 
 -- ---- what is read to the end is a document
 
@@ -142,7 +135,7 @@ read_spells document list legal e =
     let found = bind_some (reached list) finish document e in
     let occurs = reached_occurs list found.0 found.1 in
     let spot = occurs.spot in
-    closed_spells spot.declared spot.opened spot.outside list document occurs.beyond occurs.sound legal (ap finish occurs.leads ∙ found.2)
+    closed_spells spot.declared spot.opened spot.outside list document occurs.after occurs.sound legal (ap finish occurs.leads ∙ found.2)
 
 -- ---- what begins a document is read so far, and what is read so far begins one
 
@@ -179,7 +172,7 @@ reached_begins list state legal e =
       rest = ends.rest;
       document = record { net = whole.net };
       spells = spells_from spot.declared ends.nodes (list ++ ends.rest) whole.net
-          (ended_tokens list (opening spot.declared) (opened_tokens spot.opened spot.outside) ends.rest (nodes_tokens ends.nodes) occurs.beyond ends.tokens_are)
+          (ended_tokens list (opening spot.declared) (opened_tokens spot.opened spot.outside) ends.rest (nodes_tokens ends.nodes) occurs.after ends.tokens_are)
           ends.sound (each_append HasLegalTexts list ends.rest legal ends.legal) whole.one;
     }
 

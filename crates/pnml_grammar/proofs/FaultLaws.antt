@@ -8,27 +8,22 @@ use Rattle.std.specs.Str.{IsValidUpTo}
 use Rattle.net_values.specs.declared.document.Document.{Document}
 use Rattle.pnml_grammar.specs.declared.reason.Reason.{Reason}
 use Rattle.pnml_grammar.specs.declared.token.Token.{Token}
-use Rattle.pnml_grammar.specs.Tokens.{TokenAt, TokensTo, first_offset}
+use Rattle.pnml_grammar.specs.Tokens.{TokenAt, first_offset}
 use Rattle.pnml_grammar.specs.LegalTexts.{HasLegalTexts}
 use Rattle.pnml_grammar.specs.Runs.{◌>>=◌}
 use Rattle.pnml_grammar.specs.Documents.{DocBytes}
-use Rattle.pnml_grammar.specs.OpenElements.{State, state_of}
+use Rattle.pnml_grammar.specs.OpenElements.{State}
 use Rattle.pnml_grammar.specs.Machine.{reason_of, finish, reached, read}
-use Rattle.pnml_grammar.specs.FirstFault.{Begins, IsFaulty, HasNoToken, IsFirstFaulty, FirstFault, not_utf8, truncated}
+use Rattle.pnml_grammar.specs.FirstFault.{Begins, IsFaulty, HasNoToken, Applies, IsFirstFaulty, FirstFault, not_utf8, truncated}
 use Rattle.pnml_grammar.specs.ReadTo.{IsReadTo}
-use Rattle.pnml_grammar.proofs.LegalLaws.{token_is_legal}
 use Rattle.pnml_grammar.proofs.EachLaws.{each_front}
-use Rattle.pnml_grammar.proofs.OffsetLaws.{token_end_inside, token_goes_on, tokens_ascend, one_goes_on, one_list}
-use Rattle.pnml_grammar.proofs.TokenLaws.{one_token_occurs}
+use Rattle.pnml_grammar.proofs.OffsetLaws.{tokens_ascend, one_goes_on, one_list}
 use Rattle.pnml_grammar.proofs.StepLaws.{reason_later}
-use Rattle.pnml_grammar.proofs.ReadToLaws.{token_is_refused, not_in_front}
-use Rattle.pnml_grammar.proofs.DocumentLaws.{spells_read, reached_spot, reached_front, read_spells, begins_reached, reached_begins}
+use Rattle.pnml_grammar.proofs.ReadToLaws.{not_in_front}
+use Rattle.pnml_grammar.proofs.ReasonLaws.{tokens_are_legal, bad_token, reason_faulty}
+use Rattle.pnml_grammar.proofs.DocumentLaws.{spells_read, reached_front, read_spells, reached_begins}
 
 -- ---- what was read begins a document
-
-pub tokens_are_legal : (bytes : List ℕ) (list : List Token) (k e : ℕ) → TokensTo bytes k list e → AllByRecursion HasLegalTexts list
-tokens_are_legal bytes [] k e to = tt
-tokens_are_legal bytes (token ∷ list) k e to = (token_is_legal bytes k token to.0 to.1, tokens_are_legal bytes list to.0 e to.2)
 
 read_is_legal : (bytes : List ℕ) (k : ℕ) (state : State) (read : IsReadTo bytes k state) → AllByRecursion HasLegalTexts read.list
 read_is_legal bytes k state read = tokens_are_legal bytes read.list (first_offset bytes) k read.reaches
@@ -59,53 +54,23 @@ faulty_after bytes k state read j faulty =
           (one_more_begins read.list faulty.list longer.more longer.token state longer.parts (read_is_legal bytes k state read) read.leads))
     ]
 
--- where no token occurs, the reading stops at the first faulty offset
-pub missing_token_is_faulty : (bytes : List ℕ) (k : ℕ) (state : State) (reason : Reason) → IsReadTo bytes k state → k < length bytes → HasNoToken bytes k reason → IsFirstFaulty bytes k reason
-missing_token_is_faulty bytes k state reason read inside missing = record {
-  faulty = record {
-    list = read.list;
-    reaches = read.reaches;
-    begins = read_begins bytes k state read;
-    inside = inside;
-    nothing_next = λ token e at begins. missing.nothing_there token e at;
-  };
+first_faulty : (bytes : List ℕ) (k : ℕ) (state : State) (reason : Reason) → IsReadTo bytes k state → Applies bytes k reason → IsFirstFaulty bytes k reason
+first_faulty bytes k state reason read because = record {
+  faulty = reason_faulty bytes k read.list reason read.reaches (read_begins bytes k state read) because;
   lowest = faulty_after bytes k state read;
-  because = inl missing;
+  because = because;
 }
 
-pub nothing_reached : (list : List Token) → reached list ≡ None → Begins list → ⊥
-nothing_reached list none begins =
-    let some = begins_reached list begins in
-    let both = sym none ∙ some.1 in
-    absurd cc
+-- where no token occurs, the reading stops at the first faulty offset
+pub missing_token_is_faulty : (bytes : List ℕ) (k : ℕ) (state : State) (reason : Reason) → IsReadTo bytes k state → k < length bytes → HasNoToken bytes k reason → IsFirstFaulty bytes k reason
+missing_token_is_faulty bytes k state reason read inside missing = first_faulty bytes k state reason read (inl missing)
 
 -- where a reason applies to the token that is there, too
 pub refused_token_is_faulty : (bytes : List ℕ) (k : ℕ) (state : State) (token : Token) (e : ℕ) (reason : Reason) → IsReadTo bytes k state → TokenAt bytes k token e
     → reason_of state token ≡ Some reason → IsFirstFaulty bytes k reason
 refused_token_is_faulty bytes k state token e reason read at some =
-    let spot = reached_spot read.list state read.leads in
-    record {
-      faulty = record {
-        list = read.list;
-        reaches = read.reaches;
-        begins = read_begins bytes k state read;
-        inside = omega (arith, token_goes_on bytes k token e at, token_end_inside bytes k token e at);
-        nothing_next = λ other f there begins.
-            nothing_reached (read.list ++ token ∷ []) (token_is_refused bytes k state token e reason read at some)
-            (subst (λ (t : Token). Begins (read.list ++ t ∷ [])) (one_token_occurs bytes k other token f e there at).0 begins);
-      };
-      lowest = faulty_after bytes k state read;
-      because = inr record {
-        list = read.list;
-        reaches = read.reaches;
-        spot = spot.0;
-        beyond = spot.1;
-        token = token;
-        end = e;
-        occurs = at;
-        applies = reason_later read.list (state_of spot.0) token (not_in_front bytes k state token e read at) ∙ ap (λ (s : State). reason_of s token) spot.2 ∙ some;
-      };
-    }
+    let applies = reason_later read.list state token (not_in_front bytes k state token e read at) ∙ some in
+    first_faulty bytes k state reason read (inr (bad_token bytes k read.list state token e reason read.reaches read.leads at applies))
 
 -- ---- what was read to the end
 

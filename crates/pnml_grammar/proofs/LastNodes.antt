@@ -10,7 +10,7 @@ use Rattle.pnml_grammar.specs.Trees.{Node, Nodes, none, ◌and◌, node_tokens, 
 use Rattle.pnml_grammar.specs.Contents.{◌then◌, node_content, nodes_content}
 use Rattle.pnml_grammar.specs.Counts.{Counts, ◌plus◌, tag_counts, node_counts, nodes_counts}
 use Rattle.pnml_grammar.specs.Documents.{IsChild, EachChild}
-use Rattle.pnml_grammar.specs.OpenElements.{State, Opened, Spot, opened_tokens, frame_of, frames_around, opened_counts, state_of}
+use Rattle.pnml_grammar.specs.OpenElements.{Opened, Spot, opened_tokens, frame_of, frames_around, opened_counts, state_after, state_of}
 use Rattle.pnml_grammar.proofs.ContentLaws.{then_nothing, then_assoc, plus_nothing, nothing_plus, plus_assoc}
 use Rattle.pnml_grammar.proofs.ReadingTrees.{with_more}
 
@@ -67,10 +67,6 @@ with_tokens (inner ∷ outer) outside node =
 
 regroup : (a b c d : Counts) → (a plus (b plus (c plus d))) ≡ ((a plus (b plus c)) plus d)
 regroup a b c d = ap (λ x. a plus x) (sym (plus_assoc b c d)) ∙ sym (plus_assoc a (b plus c) d)
-
-abbrev state_after : List Opened → Nodes → State
-state_after opened outside =
-    record { top = frame_of opened outside; under = frames_around opened outside; counts = opened_counts opened outside }
 
 with_state_after : (opened : List Opened) (outside : Nodes) (node : Node) → state_after (opened_with opened node) (outside_with opened outside node)
     ≡ with_more (state_after opened outside) (node_content (frame_of opened outside).context node) (node_counts (frame_of opened outside).context node)

@@ -15,7 +15,6 @@ use Rattle.net_values.specs.Characters.{IsLegalCharacter, IsLegalText}
 use Rattle.pnml_grammar.specs.declared.token.Attribute.{Attribute}
 use Rattle.pnml_grammar.specs.declared.token.Token.{Token}
 use Rattle.pnml_grammar.specs.declared.token.Token.TheVariants as tokens
-use Rattle.pnml_grammar.specs.Characters.{Each, is_space}
 use Rattle.pnml_grammar.specs.References.{IsReference}
 use Rattle.pnml_grammar.specs.References.IsReference.{less_than, greater_than, ampersand, apostrophe, quotation, decimal, hexadecimal}
 use Rattle.pnml_grammar.specs.Values.{lines_ended, lines_ended_after, spaced, Denotes}
@@ -26,9 +25,9 @@ use Rattle.pnml_grammar.specs.Tokens.{IsSpelling, IsCdata, TokenAt}
 use Rattle.pnml_grammar.specs.LegalTexts.{HasLegalTexts, HaveLegalValues}
 use Rattle.pnml_grammar.specs.Resolving.{is_legal_character}
 use Rattle.pnml_grammar.specs.Reading.{is_legal}
-use Rattle.pnml_grammar.proofs.TextLaws.{legal_utf8, is_legal_is, is_legal_found, BeginsAscii, utf8_split, utf8_past, space_begins}
+use Rattle.pnml_grammar.proofs.TextLaws.{legal_utf8, is_legal_is, is_legal_found, BeginsAscii, utf8_split, utf8_past, space_begins, IsCutAtAscii}
 use Rattle.pnml_grammar.proofs.ReferenceLaws.{legal_found}
-use Rattle.pnml_grammar.proofs.AttributeLaws.{quote_is_ascii, parts_again, writtens_begin}
+use Rattle.pnml_grammar.proofs.AttributeLaws.{written_cut, writtens_begin}
 
 -- ---- cuts and joins
 
@@ -149,26 +148,11 @@ spaces_are_legal front (b ∷ bs) h =
 
 -- ---- attributes
 
-spaces_begin : (b : ℕ) → is_space b ≡ true → b < 128
-spaces_begin b e = grind (arith, nat_tests)
-
-legal_after_space : (xs ys : List ℕ) → Each is_space xs → IsLegalText (xs ++ ys) → IsLegalText ys
-legal_after_space [] ys each h = h
-legal_after_space (x ∷ xs) ys each h = legal_after_space xs ys each.1 (legal_after x (xs ++ ys) (spaces_begin x each.0) h)
+legal_is_cut : IsCutAtAscii IsLegalText
+legal_is_cut = record { before = legal_split; past = legal_after }
 
 written_is_legal : (w : Written) (rest : List ℕ) → IsWritten w → IsLegalText (written w ++ rest) → IsLegalText w.body × IsLegalText rest
-written_is_legal w rest is h =
-    let q = w.quote in
-    let t2 = w.body ++ (q ∷ rest) in
-    let t1 = w.after ++ (q ∷ t2) in
-    let t0 = w.before ++ (61 ∷ t1) in
-    let ascii = quote_is_ascii q is.quote in
-    let whole : IsLegalText (w.gap ++ (w.name ++ t0)) = subst IsLegalText (parts_again w.gap w.name w.before w.after q w.body rest) h in
-    let named = legal_split w.name t0 (space_begins w.before (61 ∷ t1) is.before (omega arith)) (legal_after_space w.gap (w.name ++ t0) is.gap whole) in
-    let after_equals = legal_after 61 t1 (omega arith) (legal_after_space w.before (61 ∷ t1) is.before named.1) in
-    let inside = legal_after q t2 ascii (legal_after_space w.after (q ∷ t2) is.after after_equals) in
-    let valued = legal_split w.body (q ∷ rest) ascii inside in
-    (valued.0, legal_after q rest ascii valued.1)
+written_is_legal w rest is h = let parts = written_cut IsLegalText legal_is_cut w rest is h in (parts.1, parts.2)
 
 attribute_is_legal : (w : Written) (attribute : Attribute) → IsAttribute w attribute → IsLegalText w.body → IsLegalText attribute.value
 attribute_is_legal w attribute is body =

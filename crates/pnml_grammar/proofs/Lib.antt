@@ -35,8 +35,9 @@ pub mod DocumentLaws
 pub mod ValuedWalks
 pub mod ValuedTestLaws
 pub mod ReadToLaws
-pub mod FaultLaws
 pub mod SpotLaws
+pub mod ReasonLaws
+pub mod FaultLaws
 pub mod OneFault
 pub mod SomeAnswer
 pub mod CanonTokens

@@ -24,7 +24,7 @@ use Rattle.pnml_grammar.proofs.SpotLaws.{one_state_after}
 bad_reason : (bytes : List ℕ) (k : ℕ) (reason other : Reason) → HasBadToken bytes k reason → HasBadToken bytes k other → reason ≡ other
 bad_reason bytes k reason other one two =
     let lists = one_list bytes one.list two.list (first_offset bytes) k one.reaches two.reaches in
-    let states = one_state_after one.spot two.spot one.list one.beyond (lists ∙ two.beyond) in
+    let states = one_state_after one.spot two.spot one.list one.after (lists ∙ two.after) in
     let tokens = (one_token_occurs bytes k one.token two.token one.end two.end one.occurs two.occurs).0 in
     some_is reason other
     (sym one.applies ∙ ap (λ (list : List Token). reason_after list (state_of one.spot) one.token) lists

@@ -1,7 +1,5 @@
--- What was read up to an offset goes on by a token to which no reason applies, and stops at one to which one
--- does.
+-- What was read up to an offset goes on by a token to which no reason applies.
 use Rattle.std.proofs.Common.{◌≡◌, ℕ, List, [], ◌∷◌, ◌++◌, Option, Some, None, refl, ap, subst, ◌∙◌}
-use Rattle.pnml_grammar.specs.declared.reason.Reason.{Reason}
 use Rattle.pnml_grammar.specs.declared.token.Token.{Token}
 use Rattle.pnml_grammar.specs.declared.token.Token.TheVariants as tokens
 use Rattle.pnml_grammar.specs.Tokens.{TokenAt, first_offset}
@@ -9,7 +7,7 @@ use Rattle.pnml_grammar.specs.Runs.{◌>>=◌}
 use Rattle.pnml_grammar.specs.OpenElements.{State}
 use Rattle.pnml_grammar.specs.Machine.{start, reason_of, next, step, run, after_declaration, reached}
 use Rattle.pnml_grammar.specs.ReadTo.{IsReadTo}
-use Rattle.pnml_grammar.proofs.StepLaws.{step_taken, step_refused, IsLater}
+use Rattle.pnml_grammar.proofs.StepLaws.{step_taken, IsLater}
 use Rattle.pnml_grammar.proofs.OffsetLaws.{tokens_then}
 
 -- ---- runs
@@ -82,9 +80,3 @@ token_is_read bytes k state token e read at none = record {
     none_empty : (list : List Token) (token : Token) → list ++ token ∷ [] ≡ [] → ⊥
     none_empty [] token e = absurd cc
     none_empty (first ∷ list) token e = absurd cc
-
--- a token to which a reason applies goes on to nothing that is read
-pub token_is_refused : (bytes : List ℕ) (k : ℕ) (state : State) (token : Token) (e : ℕ) (reason : Reason) (read : IsReadTo bytes k state) → TokenAt bytes k token e → reason_of state token ≡ Some reason
-    → reached (read.list ++ token ∷ []) ≡ None
-token_is_refused bytes k state token e reason read at some =
-    reached_one_more read.list token state (not_in_front bytes k state token e read at) read.leads ∙ step_refused state token reason some

@@ -294,8 +294,8 @@ number_passed false None numerals none few one two = absurd (true≢false one)
 number_passed false (Some number) numerals none few one two = let empty = none_long numerals two in (refl, omega arith)
 
 -- characters may follow what has occurred
-pub record MayOccur (standing : Bool) (content more : Content) : Type 0 where
-  pub occurs : standing ≡ true
+pub record MayOccur (test : Bool) (content more : Content) : Type 0 where
+  pub occurs : test ≡ true
   pub few : HasFew (content then more)
 
 pub characters_none : (context : Context) (content : Content) (value : List ℕ) → MayOccur (may_have_characters context value) content (characters_content context value)

@@ -1,7 +1,6 @@
 -- Bytes spell a document or have a fault: the tokens are taken one after the other until none is there or a reason
--- applies to the next. And a reason applies exactly at a faulty offset, since a token without one goes on to more of
--- a document.
-use Rattle.std.proofs.Common.{◌≡◌, ℕ, zero, suc, ◌+◌, ◌<◌, ◌≤◌, List, [], ◌∷◌, ◌++◌, Option, Some, None, refl, sym, ap, subst, ◌∙◌, arith, inl, inr, length, take, drop}
+-- applies to the next.
+use Rattle.std.proofs.Common.{◌≡◌, ℕ, zero, suc, ◌+◌, ◌<◌, ◌≤◌, List, [], ◌∷◌, Option, Some, None, refl, sym, ap, subst, ◌∙◌, arith, inl, inr, length, take, drop}
 use Rattle.std.specs.Prelude.{◌⊎◌, ◌==◌, nat_eq, IsUtf8}
 use Rattle.std.specs.List.{starts_with}
 use Rattle.std.specs.Str.{is_utf8}
@@ -11,45 +10,19 @@ use Rattle.net_values.specs.declared.document.Document.{Document}
 use Rattle.pnml_grammar.specs.declared.reason.Reason.{Reason}
 use Rattle.pnml_grammar.specs.declared.token.Token.{Token}
 use Rattle.pnml_grammar.specs.declared.token.Token.TheVariants as tokens
-use Rattle.pnml_grammar.specs.Tokens.{TokenAt, TokensTo, first_offset, HasTokenOrNone}
-use Rattle.pnml_grammar.specs.Reading.{token_from}
+use Rattle.pnml_grammar.specs.Tokens.{TokenAt, first_offset}
 use Rattle.pnml_grammar.specs.Documents.{DocBytes}
 use Rattle.pnml_grammar.specs.OpenElements.{State}
-use Rattle.pnml_grammar.specs.Reasons.{reason_without_token, reason_after}
-use Rattle.pnml_grammar.specs.Machine.{start, reason_of, next, finish, reached}
-use Rattle.pnml_grammar.specs.FirstFault.{Begins, IsFaulty, HasBadToken, Applies, IsUtf8UpTo, Fault, not_utf8, at, truncated, FirstFault, HaveSomeAnswer, HasReason, RowsTellFaults}
+use Rattle.pnml_grammar.specs.Reasons.{reason_without_token}
+use Rattle.pnml_grammar.specs.Machine.{start, reason_of, next, finish}
+use Rattle.pnml_grammar.specs.FirstFault.{IsUtf8UpTo, Fault, not_utf8, at, truncated, FirstFault, HaveSomeAnswer}
 use Rattle.pnml_grammar.specs.ReadTo.{IsReadTo}
 use Rattle.pnml_grammar.proofs.RunLaws.{past_text_found}
-use Rattle.pnml_grammar.proofs.TokenLaws.{token_is, token_found, one_token_occurs}
-use Rattle.pnml_grammar.proofs.OffsetLaws.{token_end_inside, token_goes_on, tokens_then, one_list}
-use Rattle.pnml_grammar.proofs.StepLaws.{step_taken, step_refused, front_or_later, reason_later}
-use Rattle.pnml_grammar.proofs.ReadToLaws.{reached_one_more, nothing_is_read, declaration_is_read, token_is_read}
-use Rattle.pnml_grammar.proofs.DocumentLaws.{reached_spot, begins_reached, reached_begins}
-use Rattle.pnml_grammar.proofs.FaultLaws.{tokens_are_legal, nothing_reached, missing_token_is_faulty, refused_token_is_faulty, whole_is_spelled, whole_is_truncated}
-use Rattle.pnml_grammar.proofs.SpotLaws.{one_state_after}
-
--- ---- a token, or none
-
-Found : List ℕ → ℕ → Type 0
-Found bytes k = (token : Token) × (e : ℕ) × TokenAt bytes k token e
-
-Missing : List ℕ → ℕ → Type 0
-Missing bytes k = (token : Token) (e : ℕ) → TokenAt bytes k token e → ⊥
-
-read_at : (bytes : List ℕ) (k : ℕ) (found : Option (Token × List ℕ)) → k ≤ length bytes → token_from (drop k bytes) ≡ found → Found bytes k ⊎ Missing bytes k
-unfolding Found Missing
-read_at bytes k None inside e = inr (λ token end at. let is = token_is (drop k bytes) token at.spelling at.rest at.occurs in absurd cc)
-read_at bytes k (Some found) inside e =
-    let occurs = token_found (drop k bytes) found.0 found.1 e in
-    inl (found.0, k + length occurs.0, record { inside = inside; spelling = occurs.0; rest = found.1; occurs = occurs.1; end_is = refl })
-
-pub token_or_none : HasTokenOrNone
-unfolding Found Missing
-token_or_none bytes k =
-    elim (cases_lt (length bytes) k) [
-      | inl beyond ↦ inr (λ token end at. absurd (omega (arith, beyond, at.inside)))
-      | inr inside ↦ read_at bytes k (token_from (drop k bytes)) inside refl
-    ]
+use Rattle.pnml_grammar.proofs.TokenLaws.{one_token_occurs, token_or_none}
+use Rattle.pnml_grammar.proofs.OffsetLaws.{token_end_inside, token_goes_on}
+use Rattle.pnml_grammar.proofs.StepLaws.{front_or_later}
+use Rattle.pnml_grammar.proofs.ReadToLaws.{nothing_is_read, declaration_is_read, token_is_read}
+use Rattle.pnml_grammar.proofs.FaultLaws.{missing_token_is_faulty, refused_token_is_faulty, whole_is_spelled, whole_is_truncated}
 
 -- ---- a document, or a fault
 
@@ -145,99 +118,3 @@ some_answer bytes =
       | inl text ↦ text_answered bytes (IsUtf8-from_is_utf8 bytes text)
       | inr other ↦ not_text bytes (λ text. true≢false (sym (is_utf8-from_IsUtf8 bytes text) ∙ other))
     ]
-
--- ---- a reason applies exactly at a faulty offset
-
--- a token without a reason goes on to more of a document
-goes_on : (list : List Token) (state : State) (token : Token) → reached list ≡ Some state → reason_after list state token ≡ None
-    → (after : State) × (reached (list ++ token ∷ []) ≡ Some after)
-unfolding reached
-goes_on list state token leads none =
-    elim (front_or_later list token) [
-      | inl front ↦ (start, ap (λ (l : List Token). reached (l ++ token ∷ [])) front.0 ∙ ap (λ (t : Token). reached (t ∷ [])) front.1)
-      | inr later ↦ (next state token, reached_one_more list token state later leads ∙ step_taken state token (sym (reason_later list state token later) ∙ none))
-    ]
-
--- and one with a reason to none
-goes_nowhere : (list : List Token) (state : State) (token : Token) (reason : Reason) → reached list ≡ Some state → reason_after list state token ≡ Some reason
-    → reached (list ++ token ∷ []) ≡ None
-goes_nowhere list state token reason leads some =
-    elim (front_or_later list token) [
-      | inl front ↦
-          let one = ap (λ (l : List Token). reason_after l state token) front.0 ∙ ap (λ (t : Token). reason_after [] state t) front.1 in
-          let both = sym one ∙ some in
-          absurd cc
-      | inr later ↦ reached_one_more list token state later leads ∙ step_refused state token reason (sym (reason_later list state token later) ∙ some)
-    ]
-
-token_reason : (bytes : List ℕ) (k : ℕ) (faulty : IsFaulty bytes k) (token : Token) (e : ℕ) → TokenAt bytes k token e → (state : State) → reached faulty.list ≡ Some state
-    → (reason : Option Reason) → reason_after faulty.list state token ≡ reason → HasReason bytes k
-token_reason bytes k faulty token e there state leads None is =
-    let on = goes_on faulty.list state token leads is in
-    let legal = tokens_are_legal bytes (faulty.list ++ token ∷ []) (first_offset bytes) e (tokens_then bytes faulty.list (first_offset bytes) k token e faulty.reaches there) in
-    absurd (faulty.nothing_next token e there (reached_begins (faulty.list ++ token ∷ []) on.0 legal on.1))
-token_reason bytes k faulty token e there state leads (Some reason) is =
-    let spot = reached_spot faulty.list state leads in
-    record {
-      list = faulty.list;
-      reaches = faulty.reaches;
-      begins = faulty.begins;
-      reason = reason;
-      because = inr record {
-        list = faulty.list;
-        reaches = faulty.reaches;
-        spot = spot.0;
-        beyond = spot.1;
-        token = token;
-        end = e;
-        occurs = there;
-        applies = ap (λ (s : State). reason_after faulty.list s token) spot.2 ∙ is;
-      };
-    }
-
-faulty_reason : (bytes : List ℕ) (k : ℕ) → IsFaulty bytes k → HasReason bytes k
-faulty_reason bytes k faulty =
-    elim (token_or_none bytes k) [
-      | inl found ↦
-          let reads = begins_reached faulty.list faulty.begins in
-          token_reason bytes k faulty found.0 found.1 found.2 reads.0 reads.1 (reason_after faulty.list reads.0 found.0) refl
-      | inr none ↦ record {
-        list = faulty.list;
-        reaches = faulty.reaches;
-        begins = faulty.begins;
-        reason = reason_without_token (drop k bytes);
-        because = inl record { inside = faulty.inside; nothing_there = none; reason_is = refl };
-      }
-    ]
-
-bad_ends : (bytes : List ℕ) (k : ℕ) (list : List Token) (reason : Reason) → TokensTo bytes (first_offset bytes) list k → Begins list → (bad : HasBadToken bytes k reason)
-    → Begins (list ++ bad.token ∷ []) → ⊥
-bad_ends bytes k list reason reaches begins bad more =
-    let same = one_list bytes bad.list list (first_offset bytes) k bad.reaches reaches in
-    let reads = begins_reached list begins in
-    let spot = reached_spot list reads.0 reads.1 in
-    let states = one_state_after bad.spot spot.0 list (sym same ∙ bad.beyond) spot.1 ∙ spot.2 in
-    let applies = ap (λ (l : List Token). reason_after l reads.0 bad.token) (sym same) ∙ ap (λ (s : State). reason_after bad.list s bad.token) (sym states) ∙ bad.applies in
-    nothing_reached (list ++ bad.token ∷ []) (goes_nowhere list reads.0 bad.token reason reads.1 applies) more
-
-reason_faulty : (bytes : List ℕ) (k : ℕ) (list : List Token) (reason : Reason) → TokensTo bytes (first_offset bytes) list k → Begins list → Applies bytes k reason → IsFaulty bytes k
-reason_faulty bytes k list reason reaches begins (inl missing) = record {
-  list = list;
-  reaches = reaches;
-  begins = begins;
-  inside = missing.inside;
-  nothing_next = λ token e at more. missing.nothing_there token e at;
-}
-reason_faulty bytes k list reason reaches begins (inr bad) = record {
-  list = list;
-  reaches = reaches;
-  begins = begins;
-  inside = omega (arith, token_goes_on bytes k bad.token bad.end bad.occurs, token_end_inside bytes k bad.token bad.end bad.occurs);
-  nothing_next = λ token e at more.
-      bad_ends bytes k list reason reaches begins bad
-      (subst (λ (t : Token). Begins (list ++ t ∷ [])) (one_token_occurs bytes k token bad.token e bad.end at bad.occurs).0 more);
-}
-
-pub rows_tell_faults : RowsTellFaults
-rows_tell_faults bytes k =
-    (faulty_reason bytes k, λ has. reason_faulty bytes k has.list has.reason has.reaches has.begins has.because)

@@ -9,7 +9,7 @@ use Rattle.pnml_grammar.specs.Trees.{Node, element, empty_element, comment, inst
 use Rattle.pnml_grammar.specs.Contents.{node_content, nodes_content, cdata_content, characters_content}
 use Rattle.pnml_grammar.specs.Counts.{node_counts, nodes_counts, tag_counts}
 use Rattle.pnml_grammar.specs.Documents.{opening}
-use Rattle.pnml_grammar.specs.OpenElements.{State, Opened, Spot, opened_tokens, IsAfter, frame_of, frames_around, opened_counts, state_of}
+use Rattle.pnml_grammar.specs.OpenElements.{State, Opened, Spot, opened_tokens, IsAfter, frame_of, frames_around, opened_counts, state_after, state_of}
 use Rattle.pnml_grammar.specs.Machine.{start, next, open_element}
 use Rattle.pnml_grammar.proofs.ContentLaws.{nothing_plus, plus_assoc}
 use Rattle.pnml_grammar.proofs.ReadingTrees.{with_more, more_nothing, more_twice, put_more, closed_more}
@@ -45,9 +45,6 @@ mutual
       ∙ after_node node state (nodes_tokens nodes ++ rest)
       ∙ after_nodes nodes (with_more state (node_content context node) (node_counts context node)) rest
       ∙ ap (λ s. after_all s rest) (more_twice state (node_content context node) (nodes_content context nodes) (node_counts context node) (nodes_counts context nodes))
-
-abbrev state_after : List Opened → Nodes → State
-state_after opened outside = record { top = frame_of opened outside; under = frames_around opened outside; counts = opened_counts opened outside }
 
 around_root : (outside : Nodes) → with_more start (nodes_content contexts.Document outside) (nodes_counts contexts.Document outside) ≡ state_after [] outside
 around_root outside = λ i. record {

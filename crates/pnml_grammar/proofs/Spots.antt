@@ -1,6 +1,6 @@
 -- What is read represents open elements: after tokens that have been read there are elements that are open,
 -- each of which may occur where it does, and in each of them whole children that may occur there. Each token
--- adds a child, opens an element or closes the innermost one, by the test that no reason occurs against it.
+-- adds a child, opens an element or closes the innermost one, since no reason applies to it.
 use Rattle.std.proofs.Common.{◌≡◌, ℕ, suc, ◌+◌, ◌≤◌, refl, sym, ap, subst, ◌∙◌, List, [], ◌∷◌, ◌++◌, append_assoc, append-nil, length, Option, Some, None, Bool, true, false, IsTrue, is_none, arith, true≢false}
 use Rattle.std.proofs.lemmas.Slice.Eq.{bytes_eq-Decides}
 use Rattle.net_values.specs.declared.limits.TheConstants.{MAX_OPEN_ELEMENTS}
@@ -228,7 +228,7 @@ end_after declared (inner ∷ outer) outside name sound e =
       declared = refl;
     }
 
--- a token against which no reason occurs
+-- a token to which no reason applies
 pub token_after : (spot : Spot) (token : Token) → IsSound spot → reason_of (state_of spot) token ≡ None → After spot token
 token_after spot tokens.Declaration sound e = absurd cc
 token_after spot tokens.Comment sound e = trivia_after spot tokens.Comment comment refl refl refl tt refl refl sound
@@ -293,10 +293,10 @@ nothing_sound declared = record {
   counted = omega arith;
 }
 
--- tokens lead to what the elements tell that are open after them, and all in these may occur where it does
+-- tokens lead to what the elements tell that are open after them, and all in these may occur where it is
 pub record Represents (list : List Token) (state : State) : Type 0 where
   pub spot : Spot
-  pub beyond : IsAfter spot list
+  pub after : IsAfter spot list
   pub leads : state_of spot ≡ state
   pub sound : IsSound spot
 
@@ -307,7 +307,7 @@ reached_occurs list state e =
     let reaches = run_spot (after_declaration list) (record { declared = front.0; opened = []; outside = none }) state (nothing_sound front.0) e in
     record {
       spot = reaches.end;
-      beyond = front.1 ∙ (λ i. opening (sym reaches.declared i) ++ sym reaches.tokens_are i);
+      after = front.1 ∙ (λ i. opening (sym reaches.declared i) ++ sym reaches.tokens_are i);
       leads = reaches.leads;
       sound = reaches.sound;
     }

@@ -82,6 +82,14 @@ pub space_begins : (xs ys : List ℕ) → Each is_space xs → BeginsAscii ys �
 space_begins [] ys each ascii = ascii
 space_begins (x ∷ xs) ys each ascii = space_is_ascii x each.0
 
-pub utf8_after_space : (xs ys : List ℕ) → Each is_space xs → IsUtf8 (xs ++ ys) → IsUtf8 ys
-utf8_after_space [] ys each h = h
-utf8_after_space (x ∷ xs) ys each h = utf8_after_space xs ys each.1 (utf8_past x (xs ++ ys) (space_is_ascii x each.0) h)
+-- texts with the property may be cut at an ASCII byte: before it, and after it
+pub record IsCutAtAscii (Property : List ℕ → Type 0) : Type 0 where
+  pub before : (xs rest : List ℕ) → BeginsAscii rest → Property (xs ++ rest) → Property xs × Property rest
+  pub past : (b : ℕ) (bs : List ℕ) → b < 128 → Property (b ∷ bs) → Property bs
+
+pub cut_after_space : (Property : List ℕ → Type 0) → IsCutAtAscii Property → (xs ys : List ℕ) → Each is_space xs → Property (xs ++ ys) → Property ys
+cut_after_space Property cut [] ys each h = h
+cut_after_space Property cut (x ∷ xs) ys each h = cut_after_space Property cut xs ys each.1 (cut.past x (xs ++ ys) (space_is_ascii x each.0) h)
+
+pub utf8_is_cut : IsCutAtAscii IsUtf8
+utf8_is_cut = record { before = utf8_split; past = utf8_past }

@@ -1,15 +1,15 @@
 -- Any token: it occurs at the front just where it is read there. So two tokens that occur at one offset are
 -- what one function reads there.
-use Rattle.std.proofs.Common.{◌≡◌, ℕ, ◌-◌, ◌≤◌, true, false, cond, List, [], ◌∷◌, ◌++◌, Option, Some, None, refl, sym, ap, subst, ◌∙◌, arith, inl, inr, length, drop, length-append}
-use Rattle.std.specs.Prelude.{◌==◌, nat_le, codes, is_none, IsUtf8}
-use Rattle.std.proofs.lemmas.Bool.{cases_Bool, eqb-true, not-true, and_parts, and_from, leb-true, le-leb, true≢false}
+use Rattle.std.proofs.Common.{◌≡◌, ℕ, ◌-◌, ◌+◌, ◌≤◌, true, false, cond, List, [], ◌∷◌, ◌++◌, Option, Some, None, refl, sym, ap, subst, ◌∙◌, arith, inl, inr, length, drop, length-append}
+use Rattle.std.specs.Prelude.{◌⊎◌, ◌==◌, nat_le, codes, is_none, IsUtf8}
+use Rattle.std.proofs.lemmas.Bool.{cases_Bool, cases_lt, eqb-true, not-true, and_parts, and_from, leb-true, le-leb, true≢false}
 use Rattle.std.proofs.lemmas.List.{take_at}
 use Rattle.net_values.specs.declared.limits.TheConstants.{MAX_TOKEN_BYTES}
 use Rattle.net_values.specs.Characters.{IsLegalText}
 use Rattle.pnml_grammar.specs.declared.token.Token.{Token}
 use Rattle.pnml_grammar.specs.declared.token.Token.TheVariants.{Declaration, Comment, Instruction, Cdata, Start, Empty, End, Characters}
 use Rattle.pnml_grammar.specs.Characters.{Each}
-use Rattle.pnml_grammar.specs.Tokens.{IsSpelling, IsCharacters, is_text_byte, IsTextEnd, MayFollow, Occurs, HasOneToken}
+use Rattle.pnml_grammar.specs.Tokens.{IsSpelling, IsCharacters, is_text_byte, IsTextEnd, MayFollow, Occurs, TokenAt, HasOneToken, HasTokenOrNone}
 use Rattle.pnml_grammar.specs.Runs.{passed, beyond, past, past_text, until}
 use Rattle.pnml_grammar.specs.Resolving.{value_of}
 use Rattle.pnml_grammar.specs.Reading.{comment_at, cdata_at, instruction_at, end_tag_at, characters_at, after_or, markup_at, shape_at, is_legal, before_rest, is_spelling, token_from}
@@ -173,3 +173,26 @@ one_token_occurs bytes k token other e f at also =
     let one = ap length at.occurs.parts in
     let two = ap length also.occurs.parts in
     (both.0, omega (arith, rests, one, two, at.end_is, also.end_is, length-append at.spelling at.rest, length-append also.spelling also.rest))
+
+-- ---- a token, or none
+
+Found : List ℕ → ℕ → Type 0
+Found bytes k = (token : Token) × (e : ℕ) × TokenAt bytes k token e
+
+Missing : List ℕ → ℕ → Type 0
+Missing bytes k = (token : Token) (e : ℕ) → TokenAt bytes k token e → ⊥
+
+read_at : (bytes : List ℕ) (k : ℕ) (found : Option (Token × List ℕ)) → k ≤ length bytes → token_from (drop k bytes) ≡ found → Found bytes k ⊎ Missing bytes k
+unfolding Found Missing
+read_at bytes k None inside e = inr (λ token end at. let is = token_is (drop k bytes) token at.spelling at.rest at.occurs in absurd cc)
+read_at bytes k (Some found) inside e =
+    let occurs = token_found (drop k bytes) found.0 found.1 e in
+    inl (found.0, k + length occurs.0, record { inside = inside; spelling = occurs.0; rest = found.1; occurs = occurs.1; end_is = refl })
+
+pub token_or_none : HasTokenOrNone
+unfolding Found Missing
+token_or_none bytes k =
+    elim (cases_lt (length bytes) k) [
+      | inl beyond ↦ inr (λ token end at. absurd (omega (arith, beyond, at.inside)))
+      | inr inside ↦ read_at bytes k (token_from (drop k bytes)) inside refl
+    ]

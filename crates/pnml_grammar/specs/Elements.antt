@@ -201,7 +201,7 @@ may_hold contexts.MarkingText _ = false
 may_hold contexts.WeightText _ = false
 may_hold contexts.Skipped _ = true
 
--- a tag whose name, attributes and place are right
+-- a tag whose name and attributes are right, of an element that may be in the context
 abbrev pub may_occur_as : Context → Option ElementKind → List Attribute → Bool
 may_occur_as context None attributes = false
 may_occur_as context (Some element) attributes =

@@ -33,7 +33,7 @@ pub record HasBadToken (bytes : List ℕ) (k : ℕ) (reason : Reason) : Type 0 w
   pub list : List Token
   pub reaches : TokensTo bytes (first_offset bytes) list k
   pub spot : Spot
-  pub beyond : IsAfter spot list
+  pub after : IsAfter spot list
   pub token : Token
   pub end : ℕ
   pub occurs : TokenAt bytes k token end

@@ -71,9 +71,9 @@ opened_counts (inner ∷ outer) outside =
     plus (tag_counts (frame_of outer outside).context inner.name
     plus nodes_counts (context_in (frame_of outer outside).context (element_named inner.name)) inner.children)
 
+abbrev pub state_after : List Opened → Nodes → State
+state_after opened outside =
+    record { top = frame_of opened outside; under = frames_around opened outside; counts = opened_counts opened outside }
+
 abbrev pub state_of : Spot → State
-state_of spot = record {
-  top = frame_of spot.opened spot.outside;
-  under = frames_around spot.opened spot.outside;
-  counts = opened_counts spot.opened spot.outside;
-}
+state_of spot = state_after spot.opened spot.outside

@@ -24,7 +24,7 @@ past wanted (byte ∷ bytes) = if byte == wanted then Some bytes else None
 abbrev pub past_text : List ℕ → List ℕ → Option (List ℕ)
 past_text text bytes = if starts_with nat_eq bytes text then Some (drop (length text) bytes) else None
 
--- what comes before and after the first offset of a part
+-- what comes before and after the first occurrence of a part
 abbrev pub with_byte : ℕ → Option (List ℕ × List ℕ) → Option (List ℕ × List ℕ)
 with_byte byte found = found >>= λ x. Some (byte ∷ x.0, x.1)
 

@@ -19,6 +19,77 @@ struct Row<'a> {
     shape: Times<'a>,
 }
 
+// id, name, pages, shape, and whether the document is valued
+const DOCUMENTS: [(
+    Times<'static>,
+    Option<Times<'static>>,
+    usize,
+    Times<'static>,
+    bool,
+); 48] = [
+    // ids of 1 to 4,096 bytes
+    (("i", 1), None, 0, ("", 0), true),
+    (("i", 0), None, 0, ("", 0), false),
+    (("i", 4096), None, 0, ("p", 1), true),
+    (("i", 4097), None, 0, ("", 0), false),
+    (("é", 2048), None, 0, ("", 0), true),
+    (("é", 2049), None, 0, ("", 0), false),
+    // of legal characters without spaces and control characters
+    (("a b", 1), None, 0, ("", 0), false),
+    (("a\tb", 1), None, 0, ("", 0), false),
+    (("a\u{7F}", 1), None, 0, ("", 0), false),
+    (("a\u{80}\u{A0}", 1), None, 0, ("", 0), true),
+    (("a\u{FFFE}", 1), None, 0, ("", 0), false),
+    (("<&\"'>", 1), None, 0, ("", 0), true),
+    // names of at most 65,536 bytes of legal characters
+    (("i", 1), Some(("", 0)), 1, ("", 0), true),
+    (
+        ("i", 1),
+        Some(("a b\t\r\n\u{10FFFF}", 1)),
+        0,
+        ("ptrs12", 1),
+        true,
+    ),
+    (("i", 1), Some(("x", 65_536)), 0, ("", 0), true),
+    (("i", 1), Some(("x", 65_537)), 0, ("", 0), false),
+    (("i", 1), Some(("a\0", 1)), 0, ("", 0), false),
+    (("i", 1), Some(("a\u{FFFF}", 1)), 0, ("", 0), false),
+    // markings and weights
+    (("i", 1), None, 0, ("m", 1), true),
+    (("i", 1), None, 0, ("2", 1), true),
+    (("i", 1), None, 0, ("0", 1), false),
+    // pages that match
+    (("i", 1), None, 0, ("(())()", 1), true),
+    (("i", 1), None, 0, ("(", 1), false),
+    (("i", 1), None, 0, (")", 1), false),
+    (("i", 1), None, 0, (")(", 1), false),
+    (("i", 1), None, 0, ("())(()", 1), false),
+    // counts
+    (("i", 1), None, 0, ("()", 1024), true),
+    (("i", 1), None, 0, ("()", 1025), false),
+    (("i", 1), None, 0, ("pm", 1024), true),
+    (("i", 1), None, 0, ("p", 2049), false),
+    (("i", 1), None, 0, ("t", 2048), true),
+    (("i", 1), None, 0, ("t", 2049), false),
+    (("i", 1), None, 0, ("rs", 2048), true),
+    (("i", 1), None, 0, ("rsr", 1366), false),
+    (("i", 1), None, 0, ("1", 65_536), true),
+    (("i", 1), None, 0, ("1", 65_537), false),
+    (("i", 1), None, 0, ("ptrs1()", 1024), true),
+    // at most 128 elements open, of which a page and an item is one, and a label two
+    (("i", 1), None, 126, ("", 0), true),
+    (("i", 1), None, 127, ("", 0), false),
+    (("i", 1), None, 126, ("p", 1), false),
+    (("i", 1), None, 125, ("ptrs1", 1), true),
+    (("i", 1), None, 124, ("m", 1), false),
+    (("i", 1), None, 123, ("m2", 1), true),
+    (("i", 1), None, 124, ("2", 1), false),
+    (("i", 1), Some(("x", 1)), 124, ("", 0), true),
+    (("i", 1), Some(("x", 1)), 125, ("", 0), false),
+    (("i", 1), Some(("x", 1)), 123, ("m", 1), true),
+    (("i", 1), Some(("x", 1)), 124, ("p", 1), false),
+];
+
 fn text(alloc: Global, (piece, times): Times) -> Result<Text, NoMemory> {
     let mut text = Text::new(alloc);
     for _ in 0..times {
@@ -91,71 +162,7 @@ fn put(alloc: Global, items: &mut Items, row: Row, (shape, times): Times) -> Res
 #[test]
 fn valued_documents_are_told(rt: HostRuntime) -> Result<(), Fail> {
     let alloc = rt.alloc();
-    // id, name, pages, shape, valued
-    let rows: [(Times, Option<Times>, usize, Times, bool); 48] = [
-        // ids of 1 to 4,096 bytes
-        (("i", 1), None, 0, ("", 0), true),
-        (("i", 0), None, 0, ("", 0), false),
-        (("i", 4096), None, 0, ("p", 1), true),
-        (("i", 4097), None, 0, ("", 0), false),
-        (("é", 2048), None, 0, ("", 0), true),
-        (("é", 2049), None, 0, ("", 0), false),
-        // of legal characters without spaces and control characters
-        (("a b", 1), None, 0, ("", 0), false),
-        (("a\tb", 1), None, 0, ("", 0), false),
-        (("a\u{7F}", 1), None, 0, ("", 0), false),
-        (("a\u{80}\u{A0}", 1), None, 0, ("", 0), true),
-        (("a\u{FFFE}", 1), None, 0, ("", 0), false),
-        (("<&\"'>", 1), None, 0, ("", 0), true),
-        // names of at most 65,536 bytes of legal characters
-        (("i", 1), Some(("", 0)), 1, ("", 0), true),
-        (
-            ("i", 1),
-            Some(("a b\t\r\n\u{10FFFF}", 1)),
-            0,
-            ("ptrs12", 1),
-            true,
-        ),
-        (("i", 1), Some(("x", 65_536)), 0, ("", 0), true),
-        (("i", 1), Some(("x", 65_537)), 0, ("", 0), false),
-        (("i", 1), Some(("a\0", 1)), 0, ("", 0), false),
-        (("i", 1), Some(("a\u{FFFF}", 1)), 0, ("", 0), false),
-        // markings and weights
-        (("i", 1), None, 0, ("m", 1), true),
-        (("i", 1), None, 0, ("2", 1), true),
-        (("i", 1), None, 0, ("0", 1), false),
-        // pages that match
-        (("i", 1), None, 0, ("(())()", 1), true),
-        (("i", 1), None, 0, ("(", 1), false),
-        (("i", 1), None, 0, (")", 1), false),
-        (("i", 1), None, 0, (")(", 1), false),
-        (("i", 1), None, 0, ("())(()", 1), false),
-        // counts
-        (("i", 1), None, 0, ("()", 1024), true),
-        (("i", 1), None, 0, ("()", 1025), false),
-        (("i", 1), None, 0, ("pm", 1024), true),
-        (("i", 1), None, 0, ("p", 2049), false),
-        (("i", 1), None, 0, ("t", 2048), true),
-        (("i", 1), None, 0, ("t", 2049), false),
-        (("i", 1), None, 0, ("rs", 2048), true),
-        (("i", 1), None, 0, ("rsr", 1366), false),
-        (("i", 1), None, 0, ("1", 65_536), true),
-        (("i", 1), None, 0, ("1", 65_537), false),
-        (("i", 1), None, 0, ("ptrs1()", 1024), true),
-        // at most 128 elements open, of which a page and an item is one, and a label two
-        (("i", 1), None, 126, ("", 0), true),
-        (("i", 1), None, 127, ("", 0), false),
-        (("i", 1), None, 126, ("p", 1), false),
-        (("i", 1), None, 125, ("ptrs1", 1), true),
-        (("i", 1), None, 124, ("m", 1), false),
-        (("i", 1), None, 123, ("m2", 1), true),
-        (("i", 1), None, 124, ("2", 1), false),
-        (("i", 1), Some(("x", 1)), 124, ("", 0), true),
-        (("i", 1), Some(("x", 1)), 125, ("", 0), false),
-        (("i", 1), Some(("x", 1)), 123, ("m", 1), true),
-        (("i", 1), Some(("x", 1)), 124, ("p", 1), false),
-    ];
-    for (id, name, pages, shape, valued) in rows {
+    for (id, name, pages, shape, valued) in DOCUMENTS {
         let row = Row {
             id,
             name,

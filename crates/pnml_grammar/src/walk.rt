@@ -2,7 +2,9 @@ ghost use Rattle.std.specs.Prelude.{◌≡◌, ◌≤◌};
 ghost use Rattle.pnml_grammar.specs.Valued.{item_height, name_height};
 ghost use Rattle.pnml_grammar.specs.ValuedTests.{start, past};
 
-use net_values::{Item, MAX_ARCS, MAX_OPEN_ELEMENTS, MAX_PAGES, MAX_PLACES, MAX_REFERENCES, MAX_TRANSITIONS, Text};
+use net_values::{
+    Item, MAX_ARCS, MAX_OPEN_ELEMENTS, MAX_PAGES, MAX_PLACES, MAX_REFERENCES, MAX_TRANSITIONS, Text,
+};
 
 /// What was passed before an item: how many pages are open there, and how many items of each kind there are.
 #[derive(Clone, Copy)]

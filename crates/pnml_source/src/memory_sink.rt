@@ -1,11 +1,11 @@
 ghost use Rattle.std.specs.Prelude.{◌≡◌, ◌-◌, ◌^◌, ◌≤◌, ◌||◌, [], ◌++◌, length, take, is_err, IfOk, OnErr};
 ghost use Rattle.std.specs.Io.KnownBytes.{WriteAppends};
-ghost use Rattle.pnml_source.specs.Causes.{HasCause, next_number};
+ghost use Rattle.pnml_source.specs.Causes.{HasCause};
 ghost use Rattle.pnml_source.specs.Streams.{TakesSome};
-ghost use Rattle.pnml_source.specs.Memory.{is_failing, meets_full, bytes_taken};
+ghost use Rattle.pnml_source.specs.Memory.{before_calls, after_call, after_fault, is_failing, meets_full, bytes_taken};
 
 use crate::failed::Failed;
-use crate::schedule::moved;
+use crate::schedule::Schedule;
 use crate::sink::Sink;
 use net_values::NoMemory;
 use std::alloc::Global;
@@ -21,10 +21,7 @@ use std::marker::Model;
 pub struct MemorySink {
     held: Vec<u8>,
     room: usize,
-    pieces: Vec<usize>,
-    failing: Vec<u64>,
-    call: u64,
-    faults: u64,
+    schedule: Schedule,
 }
 
 impl Model for MemorySink {
@@ -33,8 +30,7 @@ impl Model for MemorySink {
 
     ghost Value = { MemoryOutput };
 
-    ghost view = { λ s.
-        record { held = s.held.items; room = s.room; pieces = s.pieces.items; failing = s.failing.items; call = s.call; faults = s.faults } };
+    ghost view = { λ s. record { held = s.held.items; room = s.room; schedule = s.schedule } };
 
     ghost invariant = { λ s. (vec_len s.held ≤ s.room) × (s.room ≤ vec_capacity s.held) };
 }
@@ -48,15 +44,12 @@ impl MemorySink {
         failing: Vec<u64>,
     ) -> Result<MemorySink, NoMemory>
         ensures { IfOk result (λ sink.
-            sink ≡ record { held = []; room = room; pieces = pieces.items; failing = failing.items; call = 0; faults = 0 }) }
+            sink ≡ record { held = []; room = room; schedule = before_calls pieces.items failing.items }) }
     {
         Ok(MemorySink {
             held: Vec::with_capacity(alloc, room)?,
             room,
-            pieces,
-            failing,
-            call: 0,
-            faults: 0,
+            schedule: Schedule::new(pieces, failing),
         })
     }
 
@@ -73,32 +66,24 @@ impl Sink for MemorySink {
 
     ghost held = { λ s. Some s.held };
 
-    ghost faults = { λ s. s.faults };
+    ghost faults = { λ s. s.schedule.faults };
 
     fn write(&mut self, piece: &[u8]) -> Result<usize, Failed>
         ensures bound { TakesSome result piece.now }
         ensures bytes { WriteAppends (Some self.old.held) (Some self.new.held) result piece.now }
-        ensures cause { HasCause self.old.faults self.new.faults result }
-        ensures last { self.new.faults ≤ 2 ^ 64 - 1 }
+        ensures cause { HasCause self.old.schedule.faults self.new.schedule.faults result }
+        ensures last { self.new.schedule.faults ≤ 2 ^ 64 - 1 }
 
         // The calls that fail are those that were named, and those that meet a full sink.
-        ensures fails { is_err result
-            ≡ (is_failing self.old.failing self.old.call || meets_full self.old piece.now) }
+        ensures fails { is_err result ≡ (is_failing self.old.schedule || meets_full self.old piece.now) }
         ensures count { IfOk result (λ n. n ≡ bytes_taken self.old (length piece.now)) }
         ensures ok { IfOk result (λ n.
-            self.new ≡ record self.old { held = self.old.held ++ take n piece.now; call = next_number self.old.call }) }
-        ensures err { OnErr result
-            (self.new ≡ record self.old { call = next_number self.old.call; faults = next_number self.old.faults }) }
+            self.new ≡ record self.old { held = self.old.held ++ take n piece.now; schedule = after_call self.old.schedule }) }
+        ensures err { OnErr result (self.new ≡ record self.old { schedule = after_fault self.old.schedule }) }
     {
-        let call = self.call;
-        let faults = self.faults;
-        self.call = call.saturating_add(1);
         let free = self.room - self.held.len();
-        if self.failing.contains(&call) || (free == 0 && !piece.is_empty()) {
-            self.faults = faults.saturating_add(1);
-            return Err(Failed);
-        }
-        let count = moved(self.pieces.as_slice(), call, free.min(piece.len()));
+        let is_full = free == 0 && !piece.is_empty();
+        let count = self.schedule.next_call(free.min(piece.len()), is_full)?;
         match self.held.extend_from_slice(&piece[..count]) {
             Ok(()) => Ok(count),
             Err(_) => unreachable!(),

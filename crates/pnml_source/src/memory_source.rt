@@ -1,11 +1,11 @@
 ghost use Rattle.std.specs.Prelude.{◌≡◌, ◌+◌, ◌-◌, ◌^◌, ◌≤◌, [], ◌++◌, length, take, drop, is_err, IfOk, OnErr};
 ghost use Rattle.std.specs.Io.{ReadsAtMost};
-ghost use Rattle.pnml_source.specs.Causes.{HasCause, next_number};
+ghost use Rattle.pnml_source.specs.Causes.{HasCause};
 ghost use Rattle.pnml_source.specs.Streams.{GivesNext};
-ghost use Rattle.pnml_source.specs.Memory.{is_failing, bytes_given};
+ghost use Rattle.pnml_source.specs.Memory.{before_calls, after_call, after_fault, is_failing, bytes_given};
 
 use crate::failed::Failed;
-use crate::schedule::moved;
+use crate::schedule::Schedule;
 use crate::source::Source;
 use std::marker::Model;
 
@@ -18,10 +18,7 @@ use std::marker::Model;
 pub struct MemorySource {
     bytes: Vec<u8>,
     at: usize,
-    pieces: Vec<usize>,
-    failing: Vec<u64>,
-    call: u64,
-    faults: u64,
+    schedule: Schedule,
 }
 
 impl Model for MemorySource {
@@ -30,8 +27,7 @@ impl Model for MemorySource {
 
     ghost Value = { MemoryInput };
 
-    ghost view = { λ s.
-        record { left = drop s.at s.bytes.items; pieces = s.pieces.items; failing = s.failing.items; call = s.call; faults = s.faults } };
+    ghost view = { λ s. record { left = drop s.at s.bytes.items; schedule = s.schedule } };
 
     ghost invariant = { λ s. s.at ≤ vec_len s.bytes };
 }
@@ -39,16 +35,12 @@ impl Model for MemorySource {
 impl MemorySource {
     /// The source before its call 0.
     pub fn new(bytes: Vec<u8>, pieces: Vec<usize>, failing: Vec<u64>) -> MemorySource
-        ensures { result ≡
-            record { left = bytes.items; pieces = pieces.items; failing = failing.items; call = 0; faults = 0 } }
+        ensures { result ≡ record { left = bytes.items; schedule = before_calls pieces.items failing.items } }
     {
         MemorySource {
             bytes,
             at: 0,
-            pieces,
-            failing,
-            call: 0,
-            faults: 0,
+            schedule: Schedule::new(pieces, failing),
         }
     }
 }
@@ -58,40 +50,32 @@ impl Source for MemorySource {
 
     ghost left = { λ s. Some s.left };
 
-    ghost faults = { λ s. s.faults };
+    ghost faults = { λ s. s.schedule.faults };
 
     fn read(&mut self, buf: &mut [u8]) -> Result<usize, Failed>
         ensures bound { ReadsAtMost result buf.new }
         ensures bytes { GivesNext (Some self.old.left) (Some self.new.left) result buf.new }
-        ensures cause { HasCause self.old.faults self.new.faults result }
-        ensures last { self.new.faults ≤ 2 ^ 64 - 1 }
+        ensures cause { HasCause self.old.schedule.faults self.new.schedule.faults result }
+        ensures last { self.new.schedule.faults ≤ 2 ^ 64 - 1 }
 
         // The calls that fail are those that were named.
-        ensures fails { is_err result ≡ is_failing self.old.failing self.old.call }
+        ensures fails { is_err result ≡ is_failing self.old.schedule }
         ensures count { IfOk result (λ n. n ≡ bytes_given self.old (length buf.old)) }
         ensures ok { IfOk result (λ n.
-            self.new ≡ record self.old { left = drop n self.old.left; call = next_number self.old.call }) }
-        ensures err { OnErr result
-            (self.new ≡ record self.old { call = next_number self.old.call; faults = next_number self.old.faults }) }
+            self.new ≡ record { left = drop n self.old.left; schedule = after_call self.old.schedule }) }
+        ensures err { OnErr result (self.new ≡ record self.old { schedule = after_fault self.old.schedule }) }
     {
-        let call = self.call;
-        let faults = self.faults;
-        self.call = call.saturating_add(1);
-        if self.failing.contains(&call) {
-            self.faults = faults.saturating_add(1);
-            return Err(Failed);
-        }
         let left = self.bytes.len() - self.at;
-        let count = moved(self.pieces.as_slice(), call, left.min(buf.len()));
+        let count = self.schedule.next_call(left.min(buf.len()), false)?;
         give(self.bytes.as_slice(), self.at, count, buf);
         self.at += count;
         Ok(count)
     }
 }
 
-// Copies this many bytes from a place on to the front of the buffer.
+// Copies this many bytes from an offset on to the front of the buffer.
 pub(crate) fn give(bytes: &[u8], at: usize, count: usize, buf: &mut [u8])
-    requires place { at + count ≤ length bytes.now }
+    requires within { at + count ≤ length bytes.now }
     requires room { count ≤ length buf.old }
     ensures given { drop at bytes.now ≡ take count buf.new ++ drop (at + count) bytes.now }
     ensures length { length buf.new ≡ length buf.old }

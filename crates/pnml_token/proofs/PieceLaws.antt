@@ -196,6 +196,9 @@ semicolon_none body xs e = rw e refl
 semicolon_some : (body xs : List ℕ) (c : ℕ) → referenced body ≡ Some c → resolved_after body (59 ∷ xs) ≡ with_front (encode_utf8 c) (resolved xs)
 semicolon_some body xs c e = rw e refl
 
+never : {A : Type 0} (x : A) → Some x ≡ None → ⊥
+never x e = cc
+
 bind_none : {A B : Type 0} (r : Option A) (f : A → Option B) → (r >>= f) ≡ None → (r ≡ None) ⊎ ((x : A) × (r ≡ Some x) × (f x ≡ None))
 bind_none None f e = inl refl
 bind_none (Some x) f e = inr (x, refl, e)
@@ -211,7 +214,7 @@ ended_none spaces body (b ∷ bs) stops e =
             | inl none ↦
                 ap (λ (x : ℕ). resolved_after body (literal spaces (x ∷ bs))) (eqb-true b 59 semicolon) ∙ ap (resolved_after body) (semicolon_literal spaces bs)
                 ∙ semicolon_none body (literal spaces bs) none
-            | inr some ↦ let h = some.2 in absurd cc
+            | inr some ↦ absurd (never (encode_utf8 some.0, bs) some.2)
           ]
       | inr other ↦ no_end spaces body b bs stops other
     ]

@@ -1,9 +1,9 @@
 -- Cutting at the length of a run gives the run and what follows it. The first byte that the class lacks
 -- tells that length.
-use Rattle.std.proofs.Common.{◌≡◌, ℕ, suc, ◌+◌, Bool, true, false, cond, List, [], ◌∷◌, Option, Some, None, take, drop, length, get_or, refl, sym, ap, arith}
+use Rattle.std.proofs.Common.{◌≡◌, ◌∙◌, ℕ, suc, ◌+◌, ◌≤◌, Bool, true, false, cond, List, [], ◌∷◌, Option, Some, None, take, drop, length, get_or, refl, sym, ap, arith}
 use Rattle.std.specs.Prelude.{not, unwrap_or}
 use Rattle.std.specs.List.{prefix_len}
-use Rattle.std.proofs.lemmas.List.Sums.{prefix_len_is}
+use Rattle.std.proofs.lemmas.List.Sums.{prefix_len_is, prefix_len-le-length}
 use Rattle.memchr.specs.Find.{IsFirstByte}
 use Rattle.pnml_grammar.specs.Runs.{passed, beyond}
 
@@ -25,6 +25,16 @@ drop_prefix p (x ∷ xs) =
       | true ↦ rw (one_more (prefix_len p xs)) (drop_prefix p xs)
       | false ↦ refl
     ]
+
+-- the three together, as cutting at a length that was counted asks for them
+pub cut_inside : (p : ℕ → Bool) (xs : List ℕ) (n : ℕ) → n ≡ prefix_len p xs → n ≤ length xs
+cut_inside p xs n e = omega (arith, e, prefix_len-le-length p xs)
+
+pub cut_front : (p : ℕ → Bool) (xs front : List ℕ) (n : ℕ) → front ≡ take n xs → n ≡ prefix_len p xs → front ≡ passed p xs
+cut_front p xs front n cut e = cut ∙ ap (λ (m : ℕ). take m xs) e ∙ take_prefix p xs
+
+pub cut_rest : (p : ℕ → Bool) (xs rest : List ℕ) (n : ℕ) → rest ≡ drop n xs → n ≡ prefix_len p xs → rest ≡ beyond p xs
+cut_rest p xs rest n cut e = cut ∙ ap (λ (m : ℕ). drop m xs) e ∙ drop_prefix p xs
 
 -- a byte that isn't the one sought is of the class of all others
 other_byte : (b : Bool) → (b ≡ true → ⊥) → not b ≡ true

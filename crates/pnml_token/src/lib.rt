@@ -1,5 +1,5 @@
 //! What occurs at an offset: the one token that the definition of pnml_grammar puts there, with its end, or
-//! the answer that none does.
+//! the answer that none does. White space at the front of bytes, which readers of tokens' texts skip too.
 //!
 //! Each reader is headed by the production of XML 1.0 (fifth edition) that it reads, less the front that told
 //! what comes. A reader gives what it read and the bytes that follow.
@@ -14,6 +14,7 @@ mod runs;
 mod token;
 mod values;
 
+pub use runs::{is_space, past_space};
 pub use token::{Step, TokenFault, token_at};
 
 #[cfg(test)]

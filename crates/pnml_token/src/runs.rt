@@ -28,6 +28,7 @@ pub(crate) enum ByteClass {
 }
 
 /// The first bytes of the class, and the bytes after them.
+#[tactic(auto, using(crate::proofs::Prefixes::cut_inside))]
 pub(crate) fn split_run(class: ByteClass, bytes: &[u8]) -> (&[u8], &[u8])
     ensures run { result.0.now ≡ passed (in_class class) bytes.now }
     ensures rest { result.1.now ≡ beyond (in_class class) bytes.now }
@@ -58,8 +59,8 @@ fn has(class: ByteClass, byte: u8) -> bool
     }
 }
 
-/// `S` (production 3).
-pub(crate) fn is_space(byte: u8) -> bool
+/// White space: `#x20 | #x9 | #xD | #xA` (production 3, S).
+pub fn is_space(byte: u8) -> bool
     ensures { result ≡ is_space byte }
 {
     byte == b'\t' || byte == b'\n' || byte == b'\r' || byte == b' '
@@ -78,9 +79,9 @@ fn is_plain(spaces: bool, byte: u8) -> bool
     byte != b'\r' && byte != b'&' && !(spaces && (byte == b'\t' || byte == b'\n'))
 }
 
-/// `S?`: what follows white space.
-pub(crate) fn past_space(bytes: &[u8]) -> &[u8]
-    ensures { result.now ≡ beyond (in_class ByteClass.Space) bytes.now }
+/// `S?`: what follows the white space at the front.
+pub fn past_space(bytes: &[u8]) -> &[u8]
+    ensures { result.now ≡ beyond is_space bytes.now }
 {
     split_run(ByteClass::Space, bytes).1
 }
@@ -137,6 +138,7 @@ pub(crate) fn past_text<'a>(text: &[u8], bytes: &'a [u8]) -> Option<&'a [u8]>
 }
 
 /// `[^<]*`: text up to the next markup, and the bytes from there on.
+#[tactic(auto, using(crate::proofs::Prefixes::cut_inside))]
 pub(crate) fn split_markup(bytes: &[u8]) -> (&[u8], &[u8])
     ensures run { result.0.now ≡ passed is_text_byte bytes.now }
     ensures rest { result.1.now ≡ beyond is_text_byte bytes.now }

@@ -1,13 +1,13 @@
 -- An element with children is a start tag, the children and an end tag, and each label has a child, its
 -- `text`. What remains is to regroup.
-use Rattle.std.proofs.Common.{◌≡◌, ◌≢◌, ℕ, ◌<◌, ◌^◌, length, arith, List, [], ◌∷◌, ◌++◌, refl, ap, ◌∙◌, append-nil, sym, Bool, true, false, Option, Some, None}
-use Rattle.std.specs.Prelude.{codes, decimal, nat_eq, is_some}
+use Rattle.std.proofs.Common.{◌≡◌, ◌≢◌, ℕ, ◌<◌, ◌^◌, length, arith, List, [], ◌∷◌, ◌++◌, refl, ap, ◌∙◌, append-nil, sym, Bool, true, false, Option, Some, None, Result}
+use Rattle.std.specs.Prelude.{codes, decimal, nat_eq, is_some, OnOk}
 use Rattle.std.proofs.lemmas.Fmt.{decimal_nonempty}
 use Rattle.std.proofs.lemmas.Bool.{ne_eqb, eq-eqb, both_ways, false≢true, eqb-true}
 use Rattle.std.proofs.lemmas.List.{nil_from_length}
 use Rattle.pnml_grammar.specs.Canon.{escaped, start_tag, end_tag, empty_tag, element, label, name_text, marking_text, weight_text}
 use Rattle.pnml_write.specs.Elements.{after_attributes}
-use Rattle.pnml_write.proofs.Pieces.{around_value, two_and_three, some_after}
+use Rattle.pnml_write.proofs.Pieces.{around_value, two_and_three, some_after, joined, finished}
 use Rattle.pnml_write.proofs.Runs.{escape_some}
 
 element_full : (name attributes children : List ℕ) → children ≢ [] → element name attributes children ≡ start_tag name attributes ++ children ++ end_tag name
@@ -94,9 +94,19 @@ element_parts name attributes [] = refl
 element_parts name attributes (byte ∷ bytes) =
     ap (λ (t : List ℕ). 60 ∷ t) (two_and_three name attributes (codes ">") (byte ∷ bytes) (end_tag name))
 
--- where no label follows the name, and where one does
-pub unlabelled : (name label end : List ℕ) → label ≡ [] → after_attributes name end ≡ after_attributes (name ++ label) end
-unlabelled name label end none = rw (none, append-nil) refl
-
-pub labelled : (name label end : List ℕ) → label ≢ [] → codes ">" ++ name ++ label ++ end ≡ after_attributes (name ++ label) end
+-- where a label follows the name
+labelled : (name label end : List ℕ) → label ≢ [] → codes ">" ++ name ++ label ++ end ≡ after_attributes (name ++ label) end
 labelled name label end some = after_full (name ++ label) end (some_after name label some)
+
+-- the end of an element whose last label may be there or not
+pub rest_without_label : {T E : Type 0} (result : Result T E) (old new name label end : List ℕ) → label ≡ []
+    → OnOk result (new ≡ old ++ after_attributes name end) → OnOk result (new ≡ old ++ after_attributes (name ++ label) end)
+rest_without_label result old new name label end none written = rw (none, append-nil) written
+
+pub rest_with_label : {T E : Type 0} (result : Result T E) (old opened named full new name label end : List ℕ) → label ≢ []
+    → opened ≡ old ++ codes ">" → named ≡ opened ++ name → full ≡ named ++ label → OnOk result (new ≡ full ++ end)
+    → OnOk result (new ≡ old ++ after_attributes (name ++ label) end)
+rest_with_label result old opened named full new name label end some open_tag then_name then_label then_end =
+    finished result old full new (codes ">" ++ name ++ label) end (after_attributes (name ++ label) end)
+    (joined old named full (codes ">" ++ name) label (joined old opened named (codes ">") name open_tag then_name) then_label)
+    (labelled name label end some) then_end

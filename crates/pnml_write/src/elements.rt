@@ -1,4 +1,4 @@
-ghost use Rattle.std.specs.Prelude.{◌≡◌, [], ◌∷◌, ◌++◌, OnOk, codes};
+ghost use Rattle.std.specs.Prelude.{◌≡◌, [], ◌∷◌, ◌++◌, OnOk, codes, decimal};
 ghost use Rattle.pnml_grammar.specs.Canon.{escaped, label, name_text, marking_text, weight_text};
 ghost use Rattle.pnml_write.specs.Elements.{after_attributes};
 
@@ -50,9 +50,12 @@ pub(crate) fn push_marking(text: &mut Text, tokens: u64) -> Result<(), NoMemory>
     if tokens == USUAL_MARKING {
         return Ok(());
     }
-    text.push("<initialMarking><text>")?;
-    text.push_number(tokens as u128)?;
-    text.push("</text></initialMarking>")
+    push_number_label(
+        text,
+        "<initialMarking><text>",
+        tokens,
+        "</text></initialMarking>",
+    )
 }
 
 /// Appends the label with an arc's weight, where it isn't 1.
@@ -62,9 +65,21 @@ pub(crate) fn push_weight(text: &mut Text, weight: u64) -> Result<(), NoMemory>
     if weight == USUAL_WEIGHT {
         return Ok(());
     }
-    text.push("<inscription><text>")?;
-    text.push_number(weight as u128)?;
-    text.push("</text></inscription>")
+    push_number_label(text, "<inscription><text>", weight, "</text></inscription>")
+}
+
+/// Appends a label with a number between what it begins and what it ends with.
+fn push_number_label(
+    text: &mut Text,
+    opening: &str,
+    number: u64,
+    closing: &str,
+) -> Result<(), NoMemory>
+    ensures { OnOk result (text.new ≡ text.old ++ (opening.now ++ (decimal number ++ closing.now))) }
+{
+    text.push(opening)?;
+    text.push_number(number as u128)?;
+    text.push(closing)
 }
 
 /// Appends what follows the attributes of an element whose only child may be a name.

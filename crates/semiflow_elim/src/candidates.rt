@@ -9,8 +9,7 @@ ghost use Rattle.semiflow_elim.specs.Candidates.{zero_offers, pair_offers, row_o
 ghost use Rattle.semiflow_elim.specs.Elimination.{IsPair, IsWidePair, row_of};
 
 use crate::row_arithmetic::{RowFault, divide_all, gcd, gcd_of_all, scaled_sum};
-use crate::signs::RowSums;
-use incidence::Incidence;
+use crate::step::Step;
 use net_values::Vector;
 use std::alloc::Global;
 use support_prune::Pool;
@@ -36,28 +35,27 @@ fn combined(alloc: Global, r: &Vector, s: &Vector, a: u128, b: u128) -> Result<V
 /// Offers the combination of rows `i` and `k` where the first is positive and the second negative.
 fn offer_pair(
     alloc: Global,
-    matrix: &Incidence,
-    column: usize,
-    rows: &[Vector],
-    sums: &[RowSums],
+    step: &Step<'_>,
     pool: &mut Pool,
     i: usize,
     k: usize,
 ) -> Result<(), RowFault>
-    requires step { IsStep (matrix_of matrix.now) column rows.now sums.now }
-    requires good { AreGood (matrix_of matrix.now) column pool.old }
-    requires first { i < length rows.now }
-    requires second { k < length rows.now }
-    ensures grows { OnOk result (Grows (matrix_of matrix.now) column pool.old pool.new) }
-    ensures met { OnOk result
-        (IsPair (matrix_of matrix.now) column (row_of rows.now i) (row_of rows.now k) →
-        IsMet (matrix_of matrix.now) column pool.new (row_of rows.now i) (row_of rows.now k)) }
+    requires step { let given = step.now in
+        IsStep (matrix_of given.matrix.now) given.column given.rows.now given.sums.now }
+    requires good { AreGood (matrix_of step.now.matrix.now) step.now.column pool.old }
+    requires first { i < length step.now.rows.now }
+    requires second { k < length step.now.rows.now }
+    ensures grows { OnOk result (Grows (matrix_of step.now.matrix.now) step.now.column pool.old pool.new) }
+    ensures met { let given = step.now in OnOk result
+        (IsPair (matrix_of given.matrix.now) given.column (row_of given.rows.now i) (row_of given.rows.now k) →
+        IsMet (matrix_of given.matrix.now) given.column pool.new (row_of given.rows.now i) (row_of given.rows.now k)) }
     ensures count { OnOk result
-        (length pool.new ≤ length pool.old + pair_offers (sums_of sums.now i) (sums_of sums.now k)) }
-    ensures wide { IfErr result (λ fault. fault ≡ RowFault.Wide →
-        IsWidePair (matrix_of matrix.now) column (row_of rows.now i) (row_of rows.now k)) }
+        (length pool.new ≤ length pool.old + pair_offers (sums_of step.now.sums.now i) (sums_of step.now.sums.now k)) }
+    ensures wide { let given = step.now in IfErr result (λ fault. fault ≡ RowFault.Wide →
+        IsWidePair (matrix_of given.matrix.now) given.column (row_of given.rows.now i) (row_of given.rows.now k)) }
 {
-    let (first, second) = (sums[i], sums[k]);
+    let rows = step.rows;
+    let (first, second) = (step.sums[i], step.sums[k]);
     if first.gain <= first.loss || second.loss <= second.gain {
         return Ok(());
     }
@@ -75,58 +73,45 @@ fn offer_pair(
 }
 
 /// Offers the combinations of row `i` with all rows, which it has only where it is positive.
-fn offer_pairs(
-    alloc: Global,
-    matrix: &Incidence,
-    column: usize,
-    rows: &[Vector],
-    sums: &[RowSums],
-    pool: &mut Pool,
-    i: usize,
-) -> Result<(), RowFault>
-    requires step { IsStep (matrix_of matrix.now) column rows.now sums.now }
-    requires good { AreGood (matrix_of matrix.now) column pool.old }
-    requires first { i < length rows.now }
-    ensures ok { OnOk result
-        (PairsOffered (matrix_of matrix.now) column rows.now pool.old pool.new i (length rows.now)) }
-    ensures count { OnOk result
-        (length pool.new ≤ length pool.old + row_offers (sums_of sums.now i) sums.now (length rows.now)) }
-    ensures wide { IfErr result (λ fault. fault ≡ RowFault.Wide →
-        (k : ℕ) × (k < length rows.now) ×
-        IsWidePair (matrix_of matrix.now) column (row_of rows.now i) (row_of rows.now k)) }
+fn offer_pairs(alloc: Global, step: &Step<'_>, pool: &mut Pool, i: usize) -> Result<(), RowFault>
+    requires step { let given = step.now in
+        IsStep (matrix_of given.matrix.now) given.column given.rows.now given.sums.now }
+    requires good { AreGood (matrix_of step.now.matrix.now) step.now.column pool.old }
+    requires first { i < length step.now.rows.now }
+    ensures ok { let given = step.now in OnOk result
+        (PairsOffered (matrix_of given.matrix.now) given.column given.rows.now pool.old pool.new i (length given.rows.now)) }
+    ensures count { let given = step.now in OnOk result
+        (length pool.new ≤ length pool.old + row_offers (sums_of given.sums.now i) given.sums.now (length given.rows.now)) }
+    ensures wide { let given = step.now in IfErr result (λ fault. fault ≡ RowFault.Wide →
+        (k : ℕ) × (k < length given.rows.now) ×
+        IsWidePair (matrix_of given.matrix.now) given.column (row_of given.rows.now i) (row_of given.rows.now k)) }
 {
-    if sums[i].gain <= sums[i].loss {
+    if step.sums[i].gain <= step.sums[i].loss {
         return Ok(());
     }
-    for k in 0..rows.len() {
-        offer_pair(alloc, matrix, column, rows, sums, pool, i, k)?;
+    for k in 0..step.rows.len() {
+        offer_pair(alloc, step, pool, i, k)?;
     }
     Ok(())
 }
 
 /// Offers row `i` where it is a zero row.
-fn offer_zero(
-    alloc: Global,
-    matrix: &Incidence,
-    column: usize,
-    rows: &[Vector],
-    sums: &[RowSums],
-    pool: &mut Pool,
-    i: usize,
-) -> Result<(), RowFault>
-    requires step { IsStep (matrix_of matrix.now) column rows.now sums.now }
-    requires good { AreGood (matrix_of matrix.now) column pool.old }
-    requires first { i < length rows.now }
-    ensures grows { OnOk result (Grows (matrix_of matrix.now) column pool.old pool.new) }
-    ensures met { OnOk result
-        (gain_sum (matrix_of matrix.now) column (slice_index (row_of rows.now i)) ≡
-        loss_sum (matrix_of matrix.now) column (slice_index (row_of rows.now i)) →
-        HasBelow (matrix_of matrix.now) pool.new (slice_index (row_of rows.now i))) }
+fn offer_zero(alloc: Global, step: &Step<'_>, pool: &mut Pool, i: usize) -> Result<(), RowFault>
+    requires step { let given = step.now in
+        IsStep (matrix_of given.matrix.now) given.column given.rows.now given.sums.now }
+    requires good { AreGood (matrix_of step.now.matrix.now) step.now.column pool.old }
+    requires first { i < length step.now.rows.now }
+    ensures grows { OnOk result (Grows (matrix_of step.now.matrix.now) step.now.column pool.old pool.new) }
+    ensures met { let given = step.now in OnOk result
+        (gain_sum (matrix_of given.matrix.now) given.column (slice_index (row_of given.rows.now i)) ≡
+        loss_sum (matrix_of given.matrix.now) given.column (slice_index (row_of given.rows.now i)) →
+        HasBelow (matrix_of given.matrix.now) pool.new (slice_index (row_of given.rows.now i))) }
     ensures count { OnOk result
-        (length pool.new ≤ length pool.old + zero_offers (sums_of sums.now i)) }
+        (length pool.new ≤ length pool.old + zero_offers (sums_of step.now.sums.now i)) }
     ensures narrow { IfErr result (λ fault. fault ≡ RowFault.Wide → ⊥) }
 {
-    let own = sums[i];
+    let rows = step.rows;
+    let own = step.sums[i];
     if own.gain != own.loss {
         return Ok(());
     }
@@ -142,25 +127,20 @@ fn offer_zero(
 }
 
 /// Offers all candidates to an empty pool.
-pub(crate) fn offer_all(
-    alloc: Global,
-    matrix: &Incidence,
-    column: usize,
-    rows: &[Vector],
-    sums: &[RowSums],
-) -> Result<Pool, RowFault>
-    requires { IsStep (matrix_of matrix.now) column rows.now sums.now }
-    ensures ok { IfOk result (λ pool.
-        AllOffered (matrix_of matrix.now) column rows.now pool (length rows.now)) }
-    ensures count { IfOk result (λ pool. length pool ≤ all_offers sums.now (length rows.now)) }
-    ensures wide { IfErr result (λ fault. fault ≡ RowFault.Wide →
-        (i : ℕ) × (k : ℕ) × (i < length rows.now) × (k < length rows.now) ×
-        IsWidePair (matrix_of matrix.now) column (row_of rows.now i) (row_of rows.now k)) }
+pub(crate) fn offer_all(alloc: Global, step: &Step<'_>) -> Result<Pool, RowFault>
+    requires { let given = step.now in
+        IsStep (matrix_of given.matrix.now) given.column given.rows.now given.sums.now }
+    ensures ok { let given = step.now in IfOk result (λ pool.
+        AllOffered (matrix_of given.matrix.now) given.column given.rows.now pool (length given.rows.now)) }
+    ensures count { IfOk result (λ pool. length pool ≤ all_offers step.now.sums.now (length step.now.rows.now)) }
+    ensures wide { let given = step.now in IfErr result (λ fault. fault ≡ RowFault.Wide →
+        (i : ℕ) × (k : ℕ) × (i < length given.rows.now) × (k < length given.rows.now) ×
+        IsWidePair (matrix_of given.matrix.now) given.column (row_of given.rows.now i) (row_of given.rows.now k)) }
 {
     let mut pool = Pool::new(alloc);
-    for i in 0..rows.len() {
-        offer_zero(alloc, matrix, column, rows, sums, &mut pool, i)?;
-        offer_pairs(alloc, matrix, column, rows, sums, &mut pool, i)?;
+    for i in 0..step.rows.len() {
+        offer_zero(alloc, step, &mut pool, i)?;
+        offer_pairs(alloc, step, &mut pool, i)?;
     }
     Ok(pool)
 }

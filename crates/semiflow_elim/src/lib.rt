@@ -9,6 +9,7 @@ mod fault;
 mod laws;
 mod row_arithmetic;
 mod signs;
+mod step;
 mod tableau;
 #[cfg(test)]
 mod tests;

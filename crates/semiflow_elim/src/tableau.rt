@@ -8,6 +8,7 @@ use crate::candidates::offer_all;
 use crate::fault::ElimFault;
 use crate::row_arithmetic::RowFault;
 use crate::signs::{candidate_total, row_sums};
+use crate::step::Step;
 use incidence::Incidence;
 use net_values::{MAX_ENTRIES, NoMemory, Rows, Vector};
 use std::alloc::Global;
@@ -119,7 +120,13 @@ fn next_rows(
     if count > u64::from(budget) {
         return Err(ElimFault::RowBudget(column, count));
     }
-    match offer_all(alloc, matrix, column, rows, sums.as_slice()) {
+    let step = Step {
+        matrix,
+        column,
+        rows,
+        sums: sums.as_slice(),
+    };
+    match offer_all(alloc, &step) {
         Ok(pool) => Ok(pool.into_rows()),
         Err(RowFault::Wide) => Err(ElimFault::WideRow(column)),
         Err(RowFault::NoMemory) => Err(ElimFault::NoMemory),

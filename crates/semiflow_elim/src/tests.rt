@@ -41,19 +41,22 @@ fn has_answer(rt: &impl Abort, matrix: &Incidence, named: &NamedNet, alloc: Glob
 #[test]
 fn the_named_nets_have_these_minimal_semiflows(rt: HostRuntime) -> Result<(), Fail> {
     let alloc = rt.alloc();
+    let marking = [0; 5];
     for named in &OF_PLACES {
+        assert!(rt; named.places <= marking.len());
         let net = net_with(
             alloc,
-            &[0; 5][..named.places],
+            &marking[..named.places],
             named.transitions,
             named.arcs,
         )?;
         has_answer(&rt, &Incidence::of(alloc, &net)?, named, alloc);
     }
     for named in &OF_TRANSITIONS {
+        assert!(rt; named.places <= marking.len());
         let net = net_with(
             alloc,
-            &[0; 5][..named.places],
+            &marking[..named.places],
             named.transitions,
             named.arcs,
         )?;

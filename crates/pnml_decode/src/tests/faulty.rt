@@ -4,20 +4,16 @@ use crate::Reason::{
     UnknownElement,
 };
 
-/// A document up to the offset of its fault, what occurs from there on, and the reason.
+/// What comes after the head of a table up to the offset of the fault, what occurs from there on, and the
+/// reason. The rows of a table are in the order of the reasons.
 type Faulty = (&'static [u8], &'static [u8], Reason);
 
-/// Faults of whole inputs, in the order of the reasons.
-pub(super) const FROM_THE_FRONT: [Faulty; 30] = [
+/// Faults of whole inputs.
+pub(super) const FROM_THE_FRONT: [Faulty; 19] = [
     (b"", b"<pnm<", BadToken),
     (b"", b"<?xml version='1.1'?>", BadToken),
     (b"<?xml version='1.0'?>", b"&", BadToken),
     (b"", b"<!DOCTYPE pnml>", Doctype),
-    (
-        b"<pnml xmlns='http://www.pnml.org/version-2009/grammar/pnml'><net id='n' type='http://www.pnml.org/version-2009/grammar/ptnet'/></pnml>",
-        b"<!DOCTYPE",
-        Doctype,
-    ),
     (b"", b"<PNML/>", UnknownElement),
     (b"", b"<pnml/>", OtherNamespace),
     (
@@ -27,23 +23,8 @@ pub(super) const FROM_THE_FRONT: [Faulty; 30] = [
     ),
     (b"", b"<net xmlns='' type='x'/>", OtherNamespace),
     (
-        b"<pnml xmlns='http://www.pnml.org/version-2009/grammar/pnml'>",
-        b"<net type='x'/>",
-        OtherType,
-    ),
-    (
         b"",
         b"<pnml xmlns='http://www.pnml.org/version-2009/grammar/pnml' id='x'/>",
-        BadAttribute,
-    ),
-    (
-        b"<pnml xmlns='http://www.pnml.org/version-2009/grammar/pnml'>",
-        b"<net id='n'/>",
-        BadAttribute,
-    ),
-    (
-        b"<pnml xmlns='http://www.pnml.org/version-2009/grammar/pnml'>",
-        b"<net type='http://www.pnml.org/version-2009/grammar/ptnet'/>",
         BadAttribute,
     ),
     (b" ", b"<?xml version='1.0'?>", Misplaced),
@@ -68,45 +49,41 @@ pub(super) const FROM_THE_FRONT: [Faulty; 30] = [
         b"<pnml xmlns='http://www.pnml.org/version-2009/grammar/pnml'/>",
         Misplaced,
     ),
+];
+
+/// Faults after the tag of the root.
+pub(super) const IN_THE_ROOT: [Faulty; 7] = [
+    (b"", b"<net type='x'/>", OtherType),
+    (b"", b"<net id='n'/>", BadAttribute),
     (
-        b"<pnml xmlns='http://www.pnml.org/version-2009/grammar/pnml'>",
-        b"</pnml>",
-        Misplaced,
+        b"",
+        b"<net type='http://www.pnml.org/version-2009/grammar/ptnet'/>",
+        BadAttribute,
     ),
+    (b"", b"</pnml>", Misplaced),
+    (b"<graphics/>", b"</pnml>", Misplaced),
+    (b"", b"<place id='p'/>", Misplaced),
     (
-        b"<pnml xmlns='http://www.pnml.org/version-2009/grammar/pnml'><graphics/>",
-        b"</pnml>",
-        Misplaced,
-    ),
-    (
-        b"<pnml xmlns='http://www.pnml.org/version-2009/grammar/pnml'>",
-        b"<place id='p'/>",
-        Misplaced,
-    ),
-    (
-        b"<pnml xmlns='http://www.pnml.org/version-2009/grammar/pnml'><net id='n' type='http://www.pnml.org/version-2009/grammar/ptnet'/>",
         b"<net id='n' type='http://www.pnml.org/version-2009/grammar/ptnet'/>",
-        Misplaced,
-    ),
-    (
-        b"<pnml xmlns='http://www.pnml.org/version-2009/grammar/pnml'><net id='n' type='http://www.pnml.org/version-2009/grammar/ptnet'/></pnml>",
-        b"<pnml xmlns='http://www.pnml.org/version-2009/grammar/pnml'>",
-        Misplaced,
-    ),
-    (
-        b"<pnml xmlns='http://www.pnml.org/version-2009/grammar/pnml'><net id='n' type='http://www.pnml.org/version-2009/grammar/ptnet'/></pnml>",
-        b"</pnml>",
-        Misplaced,
-    ),
-    (
-        b"<pnml xmlns='http://www.pnml.org/version-2009/grammar/pnml'><net id='n' type='http://www.pnml.org/version-2009/grammar/ptnet'/></pnml> <!----><?a?>",
-        b"x",
+        b"<net id='n' type='http://www.pnml.org/version-2009/grammar/ptnet'/>",
         Misplaced,
     ),
 ];
 
-/// Faults after the tag of a net, in the order of the reasons.
-pub(super) const IN_A_NET: [Faulty; 87] = [
+/// Faults after a whole document.
+pub(super) const AFTER_THE_ROOT: [Faulty; 4] = [
+    (b"", b"<!DOCTYPE", Doctype),
+    (
+        b"",
+        b"<pnml xmlns='http://www.pnml.org/version-2009/grammar/pnml'>",
+        Misplaced,
+    ),
+    (b"", b"</pnml>", Misplaced),
+    (b" <!----><?a?>", b"x", Misplaced),
+];
+
+/// Faults after the tag of a net.
+pub(super) const IN_A_NET: [Faulty; 56] = [
     (b"", b"<1>", BadToken),
     (b"", b"&x;", BadToken),
     (b"", b"]]>", BadToken),
@@ -117,7 +94,6 @@ pub(super) const IN_A_NET: [Faulty; 87] = [
     (b"<graphics><a>", b"<!DOCTYPE", Doctype),
     (b"", b"<places id='p'/>", UnknownElement),
     (b"", b"<Place id='p'>", UnknownElement),
-    (b"<place id='p'>", b"<b xmlns='x'/>", UnknownElement),
     (b"<name><text>", b"<b/>", UnknownElement),
     (b"", b"<place id='p' xmlns='x'/>", OtherNamespace),
     (
@@ -147,72 +123,7 @@ pub(super) const IN_A_NET: [Faulty; 87] = [
     (b"", b"<referencePlace id='r'/>", BadAttribute),
     (b"", b"<referenceTransition id='r' ref=' '/>", BadAttribute),
     (b"", b"<name id='x'/>", BadAttribute),
-    (
-        b"<place id='p'><initialMarking>",
-        b"<text id='x'/>",
-        BadAttribute,
-    ),
     (b"", b"<text x=''/>", BadAttribute),
-    (b"<place id='p'><initialMarking><text>", b"x", BadNumber),
-    (b"<place id='p'><initialMarking><text>", b"-1", BadNumber),
-    (b"<place id='p'><initialMarking><text>", b"1 2", BadNumber),
-    (b"<place id='p'><initialMarking><text>", b"1.0", BadNumber),
-    (
-        b"<place id='p'><initialMarking><text>",
-        b"18446744073709551616",
-        BadNumber,
-    ),
-    (
-        b"<place id='p'><initialMarking><text>",
-        b"0018446744073709551616",
-        BadNumber,
-    ),
-    (
-        b"<place id='p'><initialMarking><text>1<!---->",
-        b"x",
-        BadNumber,
-    ),
-    (b"<place id='p'><initialMarking>", b"<text/>", BadNumber),
-    (
-        b"<place id='p'><initialMarking><text>1</text>",
-        b"<text/>",
-        BadNumber,
-    ),
-    (
-        b"<place id='p'><initialMarking><text>",
-        b"</text>",
-        BadNumber,
-    ),
-    (
-        b"<place id='p'><initialMarking><text> <!----> ",
-        b"</text>",
-        BadNumber,
-    ),
-    (
-        b"<arc id='a' source='p' target='t'><inscription><text>",
-        b"0",
-        BadNumber,
-    ),
-    (
-        b"<arc id='a' source='p' target='t'><inscription><text>",
-        b"00",
-        BadNumber,
-    ),
-    (
-        b"<arc id='a' source='p' target='t'><inscription><text>",
-        b"18446744073709551616",
-        BadNumber,
-    ),
-    (
-        b"<arc id='a' source='p' target='t'><inscription>",
-        b"<text/>",
-        BadNumber,
-    ),
-    (
-        b"<arc id='a' source='p' target='t'><inscription><text>",
-        b"</text>",
-        BadNumber,
-    ),
     (b"", b"<?xml version='1.0'?>", Misplaced),
     (b"<toolspecific>", b"<?xml version='1.0'?>", Misplaced),
     (
@@ -229,14 +140,7 @@ pub(super) const IN_A_NET: [Faulty; 87] = [
     (b"", b"<initialMarking/>", Misplaced),
     (b"", b"<inscription/>", Misplaced),
     (b"<page id='g'>", b"<text>", Misplaced),
-    (b"<place id='p'>", b"<place id='q'/>", Misplaced),
-    (b"<place id='p'>", b"<inscription/>", Misplaced),
     (b"<transition id='t'>", b"<initialMarking/>", Misplaced),
-    (
-        b"<arc id='a' source='p' target='t'>",
-        b"<initialMarking>",
-        Misplaced,
-    ),
     (
         b"<referencePlace id='r' ref='p'>",
         b"<initialMarking/>",
@@ -244,11 +148,6 @@ pub(super) const IN_A_NET: [Faulty; 87] = [
     ),
     (b"<name>", b"<name/>", Misplaced),
     (b"<name><text>", b"<graphics/>", Misplaced),
-    (
-        b"<place id='p'><initialMarking><text>",
-        b"<toolspecific/>",
-        Misplaced,
-    ),
     (b"<name/>", b"<name/>", Misplaced),
     (
         b"<page id='g'><name/></page><name><text/></name>",
@@ -256,50 +155,56 @@ pub(super) const IN_A_NET: [Faulty; 87] = [
         Misplaced,
     ),
     (b"<name><text/>", b"<text>", Misplaced),
-    (
-        b"<place id='p'><initialMarking/>",
-        b"<initialMarking/>",
-        Misplaced,
-    ),
-    (
-        b"<place id='p'><initialMarking><text>1</text>",
-        b"<text>",
-        Misplaced,
-    ),
-    (
-        b"<arc id='a' source='p' target='t'><inscription/>",
-        b"<inscription/>",
-        Misplaced,
-    ),
     (b"", b"x", Misplaced),
     (b"<page id='g'>", b"&#32;0", Misplaced),
     (b"<name>", b"x", Misplaced),
-    (b"<place id='p'><initialMarking>", b"1", Misplaced),
-    (
-        b"<place id='p'><initialMarking><text>1<!---->",
-        b"2",
-        Misplaced,
-    ),
-    (
-        b"<arc id='a' source='p' target='t'><inscription><text>1<?a?> <!---->",
-        b"1",
-        Misplaced,
-    ),
     (b"", b"<![CDATA[]]>", Misplaced),
     (b"<name>", b"<![CDATA[x]]>", Misplaced),
-    (
-        b"<place id='p'><initialMarking><text>",
-        b"<![CDATA[1]]>",
-        Misplaced,
-    ),
     (b"", b"</page>", Misplaced),
     (b"", b"</pnml>", Misplaced),
-    (b"<place id='p'>", b"</transition>", Misplaced),
-    (
-        b"<place id='p'><initialMarking><text>",
-        b"</initialMarking>",
-        Misplaced,
-    ),
     (b"<graphics><a>", b"</b>", Misplaced),
     (b"<graphics>", b"</toolspecific>", Misplaced),
+];
+
+/// Faults after the tag of a place.
+pub(super) const IN_A_PLACE: [Faulty; 8] = [
+    (b"", b"<b xmlns='x'/>", UnknownElement),
+    (b"<initialMarking>", b"<text id='x'/>", BadAttribute),
+    (b"<initialMarking>", b"<text/>", BadNumber),
+    (b"", b"<place id='q'/>", Misplaced),
+    (b"", b"<inscription/>", Misplaced),
+    (b"<initialMarking/>", b"<initialMarking/>", Misplaced),
+    (b"<initialMarking>", b"1", Misplaced),
+    (b"", b"</transition>", Misplaced),
+];
+
+/// Faults in the text of an initial marking.
+pub(super) const IN_A_MARKING: [Faulty; 15] = [
+    (b"", b"x", BadNumber),
+    (b"", b"-1", BadNumber),
+    (b"", b"1 2", BadNumber),
+    (b"", b"1.0", BadNumber),
+    (b"", b"18446744073709551616", BadNumber),
+    (b"", b"0018446744073709551616", BadNumber),
+    (b"1<!---->", b"x", BadNumber),
+    (b"1</text>", b"<text/>", BadNumber),
+    (b"", b"</text>", BadNumber),
+    (b" <!----> ", b"</text>", BadNumber),
+    (b"", b"<toolspecific/>", Misplaced),
+    (b"1</text>", b"<text>", Misplaced),
+    (b"1<!---->", b"2", Misplaced),
+    (b"", b"<![CDATA[1]]>", Misplaced),
+    (b"", b"</initialMarking>", Misplaced),
+];
+
+/// Faults after the tag of an arc.
+pub(super) const IN_AN_ARC: [Faulty; 8] = [
+    (b"<inscription><text>", b"0", BadNumber),
+    (b"<inscription><text>", b"00", BadNumber),
+    (b"<inscription><text>", b"18446744073709551616", BadNumber),
+    (b"<inscription>", b"<text/>", BadNumber),
+    (b"<inscription><text>", b"</text>", BadNumber),
+    (b"", b"<initialMarking>", Misplaced),
+    (b"<inscription/>", b"<inscription/>", Misplaced),
+    (b"<inscription><text>1<?a?> <!---->", b"1", Misplaced),
 ];

@@ -1,6 +1,6 @@
 //! Small nets with the minimal semiflows of their places or their transitions.
 use crate::ElimFault;
-use small_nets::Arc;
+use small_nets::{Arc, CHAIN, CYCLE, MUTEX, SCALE};
 
 /// An entry of a semiflow: the number of the semiflow in the list, the number of the place or transition,
 /// and the entry there.
@@ -17,22 +17,20 @@ pub(super) struct NamedNet {
 
 const TWO_63: i128 = 1 << 63;
 
-const CYCLE_ARCS: &[Arc] = &[(0, 0, -1), (1, 0, 1), (1, 1, -1), (0, 1, 1)];
-
 /// The nets and the semiflows of their places.
 pub(super) const OF_PLACES: [NamedNet; 10] = [
     NamedNet {
         name: "cycle",
         places: 2,
         transitions: 2,
-        arcs: CYCLE_ARCS,
+        arcs: CYCLE,
         answer: Ok((1, &[(0, 0, 1), (0, 1, 1)])),
     },
     NamedNet {
         name: "scale",
         places: 2,
         transitions: 2,
-        arcs: &[(0, 0, -2), (1, 0, 3), (1, 1, -3), (0, 1, 2)],
+        arcs: SCALE,
         answer: Ok((1, &[(0, 0, 3), (0, 1, 2)])),
     },
     NamedNet {
@@ -55,7 +53,7 @@ pub(super) const OF_PLACES: [NamedNet; 10] = [
         name: "chain of two",
         places: 3,
         transitions: 2,
-        arcs: &[(0, 0, -1), (1, 0, TWO_63), (1, 1, -1), (2, 1, TWO_63)],
+        arcs: CHAIN,
         answer: Ok((1, &[(0, 0, 1 << 126), (0, 1, 1 << 63), (0, 2, 1)])),
     },
     NamedNet {
@@ -107,25 +105,11 @@ pub(super) const OF_PLACES: [NamedNet; 10] = [
             ],
         )),
     },
-    // The places idle1, crit1, idle2, crit2 and lock.
     NamedNet {
         name: "mutex",
         places: 5,
         transitions: 4,
-        arcs: &[
-            (0, 0, -1),
-            (4, 0, -1),
-            (1, 0, 1),
-            (1, 1, -1),
-            (0, 1, 1),
-            (4, 1, 1),
-            (2, 2, -1),
-            (4, 2, -1),
-            (3, 2, 1),
-            (3, 3, -1),
-            (2, 3, 1),
-            (4, 3, 1),
-        ],
+        arcs: MUTEX,
         answer: Ok((
             3,
             &[
@@ -161,7 +145,7 @@ pub(super) const OF_TRANSITIONS: [NamedNet; 3] = [
         name: "cycle",
         places: 2,
         transitions: 2,
-        arcs: CYCLE_ARCS,
+        arcs: CYCLE,
         answer: Ok((1, &[(0, 0, 1), (0, 1, 1)])),
     },
     NamedNet {

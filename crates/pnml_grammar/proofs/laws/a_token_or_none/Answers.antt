@@ -1,5 +1,5 @@
 -- What is read there is there.
-use Rattle.pnml_grammar.proofs.SomeAnswer.{token_or_none}
+use Rattle.pnml_grammar.proofs.TokenLaws.{token_or_none}
 use Rattle.pnml_grammar.proofs.laws.a_token_or_none.Goals as goal
 
 pub returns : goal.returns

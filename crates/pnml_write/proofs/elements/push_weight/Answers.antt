@@ -1,8 +1,6 @@
 -- A usual weight has no label; any other has one with its decimal text, which is never empty.
-use Rattle.std.proofs.Common.{append-nil, sym, ◌++◌}
-use Rattle.std.specs.Prelude.{codes, decimal}
-use Rattle.pnml_grammar.specs.Canon.{weight_text}
-use Rattle.pnml_write.proofs.Pieces.{joined, finished}
+use Rattle.std.proofs.Common.{◌≡◌, ◌++◌, List, ℕ, append-nil, sym, subst}
+use Rattle.std.specs.Prelude.{OnOk}
 use Rattle.pnml_write.proofs.Labels.{weight_none, weight_full}
 use Rattle.pnml_write.proofs.elements.push_weight.Goals as goal
 
@@ -11,8 +9,5 @@ returns-then-weight-eq-USUAL_WEIGHT c = rw (weight_none c.args.weight c.if-weigh
 
 pub returns : goal.returns
 returns c =
-    let opening = codes "<inscription><text>" in
-    let weight = decimal c.args.weight in
-    finished c.push-2.result c.args.text.now c.push_number.new.self c.push-2.new.self (opening ++ weight) (codes "</text></inscription>") (weight_text c.args.weight)
-    (joined c.args.text.now c.push.new.self c.push_number.new.self opening weight c.in_ok-push.ensures.ok c.in_ok-push_number.ensures.ok)
-    (weight_full c.args.weight c.ranges.weight.fits c.if-weight-eq-USUAL_WEIGHT.false) c.push-2.ensures.ok
+    subst (λ (piece : List ℕ). OnOk c.push_number_label.result (c.push_number_label.new.text ≡ c.args.text.now ++ piece))
+    (weight_full c.args.weight c.ranges.weight.fits c.if-weight-eq-USUAL_WEIGHT.false) c.push_number_label.ensures

@@ -32,5 +32,5 @@ all_more m c rows now mid new i before grows zero_met pairs_met = record {
 pub loop-i-preserved : goal.loop-i-preserved
 loop-i-preserved c = record {
   offered = all_more _ _ _ _ _ _ _ c.loop-i.invariant.offered c.in_ok-offer_zero.ensures.grows c.in_ok-offer_zero.ensures.met c.in_ok-offer_pairs.ensures.ok;
-  count = all_offers_more c.args.sums.now c.loop-i.i (length c.args.rows.now) _ _ _ c.requires.size (let size = c.requires.size in omega arith) c.loop-i.invariant.count c.in_ok-offer_zero.ensures.count c.in_ok-offer_pairs.ensures.count;
+  count = all_offers_more c.args.step.now.sums.now c.loop-i.i (length c.args.step.now.rows.now) _ _ _ c.requires.size (let size = c.requires.size in omega arith) c.loop-i.invariant.count c.in_ok-offer_zero.ensures.count c.in_ok-offer_pairs.ensures.count;
 }

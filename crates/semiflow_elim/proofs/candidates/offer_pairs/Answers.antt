@@ -22,5 +22,5 @@ pairs_more m c rows old now new i k before grows met = record {
 pub loop-k-preserved : goal.loop-k-preserved
 loop-k-preserved c = record {
   offered = pairs_more _ _ _ _ _ _ _ _ c.loop-k.invariant.offered c.in_ok-offer_pair.ensures.grows c.in_ok-offer_pair.ensures.met;
-  count = row_offers_more (sums_of c.args.sums.now c.args.i) c.args.sums.now c.loop-k.k _ _ _ (let size = c.requires.step.size in omega arith) c.loop-k.invariant.count c.in_ok-offer_pair.ensures.count;
+  count = row_offers_more (sums_of c.args.step.now.sums.now c.args.i) c.args.step.now.sums.now c.loop-k.k _ _ _ (let size = c.requires.step.size in omega arith) c.loop-k.invariant.count c.in_ok-offer_pair.ensures.count;
 }

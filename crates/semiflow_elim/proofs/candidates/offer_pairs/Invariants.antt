@@ -5,6 +5,6 @@ use Rattle.semiflow_elim.proofs.candidates.offer_pairs.Given as goal
 
 abbrev pub invariant-loop-k : goal.invariant-loop-k
 invariant-loop-k l = record {
-  offered : PairsOffered (matrix_of l.matrix) l.column l.rows l.initial.pool l.pool l.i l.k;
-  count : length l.pool ≤ length l.initial.pool + row_offers (sums_of l.sums l.i) l.sums l.k;
+  offered : PairsOffered (matrix_of l.step.matrix.now) l.step.column l.step.rows.now l.initial.pool l.pool l.i l.k;
+  count : length l.pool ≤ length l.initial.pool + row_offers (sums_of l.step.sums.now l.i) l.step.sums.now l.k;
 }

@@ -1,15 +1,8 @@
-use Rattle.net_values.specs.declared.flat_net.FlatTransition.{FlatTransition}
-use Rattle.net_values.proofs.FlatNets.{read_entries}
+use Rattle.net_values.proofs.FlatNets.{outputs_of, read_entries}
 use Rattle.net_values.proofs.flat_net.FlatNet.outputs.Goals as goal
 
 pub returns-clause-lists : goal.returns-clause-lists
-returns-clause-lists c =
-    let within = rw (← c.self.view_is) at c.requires in
-    let entries = read_entries (λ (transition : FlatTransition). transition.outputs) _ _ _ _ c.index.result.now c.as_slice.result.now c.self.invariant.post c.self.invariant.arcs within c.index.ensures c.as_slice.ensures.value (rw c.as_slice.ensures.value c.as_slice.ensures.column) in
-    rw (← c.self.view_is) entries.0
+returns-clause-lists c = rw (← c.self.view_is) (read_entries outputs_of _ _ _ _ c.index.result.now c.as_slice.result.now c.self.invariant.post c.self.invariant.arcs (rw (← c.self.view_is) at c.requires) c.index.ensures c.as_slice.ensures.value (rw c.as_slice.ensures.value c.as_slice.ensures.column)).0
 
 pub returns-clause-narrow : goal.returns-clause-narrow
-returns-clause-narrow c =
-    let within = rw (← c.self.view_is) at c.requires in
-    let entries = read_entries (λ (transition : FlatTransition). transition.outputs) _ _ _ _ c.index.result.now c.as_slice.result.now c.self.invariant.post c.self.invariant.arcs within c.index.ensures c.as_slice.ensures.value (rw c.as_slice.ensures.value c.as_slice.ensures.column) in
-    entries.1
+returns-clause-narrow c = (read_entries outputs_of _ _ _ _ c.index.result.now c.as_slice.result.now c.self.invariant.post c.self.invariant.arcs (rw (← c.self.view_is) at c.requires) c.index.ensures c.as_slice.ensures.value (rw c.as_slice.ensures.value c.as_slice.ensures.column)).1
