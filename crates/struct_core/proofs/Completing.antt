@@ -6,13 +6,16 @@ use Rattle.std.proofs.lemmas.Bool.{cases_eq}
 use Rattle.std.specs.Io.KnownBytes.{Consumes, IsAtEnd}
 use Rattle.net_values.specs.declared.document.Document.{Document}
 use Rattle.net_values.specs.declared.limits.TheConstants.{MAX_INPUT_BYTES}
+use Rattle.net_values.specs.Net.{Net}
 use Rattle.net_values.specs.FlatNets.{NetLists, net_of}
 use Rattle.incidence.specs.Matrix.{Matrix}
 use Rattle.pnml_source.specs.Causes.{Rose}
 use Rattle.pnml_source.specs.Streams.{TakesExactly}
 use Rattle.page_flatten.specs.Flat.{Flat}
 use Rattle.semiflow_elim.specs.declared.fault.ElimFault.TheVariants as faults
-use Rattle.siphon_branch.specs.Limits.{CarriesMore}
+use Rattle.siphon_branch.specs.Limits.{CarriesMore, HasAtMostGrown, IsGrownSet}
+use Rattle.incidence.specs.Matrix.{incidence_of}
+use Rattle.struct_core.specs.Verdicts.{BoundOutcome, all_bounds, wide_bound, no_semiflows, CommonerOutcome, verdict, no_siphons}
 use Rattle.std.specs.Prelude.{Bool}
 use Rattle.struct_core.specs.declared.order.Task.{Task}
 use Rattle.struct_core.specs.declared.order.Task.TheVariants as tasks
@@ -23,7 +26,7 @@ use Rattle.struct_core.specs.Words.{Means}
 use Rattle.struct_core.specs.Enumerations.{FailedStep, wide_sum, wide_row, row_budget, SemiflowOutcome, all_semiflows, step_fails, PassedLimit, set_limit, SetOutcome, all_sets, passes_limit}
 use Rattle.struct_core.specs.Outcome.{TaskOutcome, Outcome}
 use Rattle.struct_core.specs.Run.{Device, Answered, Ran}
-use Rattle.struct_core.specs.Completeness.{IsQuiet, IsShort, NoStepFails, IsNarrow, IsFew, WritesText, QuietRunsComplete}
+use Rattle.struct_core.specs.Completeness.{IsQuiet, IsShort, NoStepFails, NoBoundIsWide, IsNarrow, IsFew, WritesText, QuietRunsComplete}
 use Rattle.struct_core.proofs.Orders.{one_order}
 use Rattle.struct_core.proofs.TaskAnswers.{task_answers}
 use Rattle.siphon_branch.proofs.Limits.{few_not_many}
@@ -65,6 +68,18 @@ sets_complete : (IsMinimal IsGrown : List Bool → Type 0) (word : List ℕ) (id
 sets_complete IsMinimal IsGrown word ids limit _ _ none (all_sets list few is) = refl
 sets_complete IsMinimal IsGrown word ids limit _ _ none (passes_limit status line passed) = absurd (not_passed IsGrown limit status line none passed)
 
+bounds_complete : (net : Net) (ids columns : ℕ → List ℕ) (budget status : ℕ) (text : List ℕ) → NoStepFails (incidence_of net) budget → NoBoundIsWide net
+    → BoundOutcome net ids columns budget status text → status ≡ 0
+bounds_complete net ids columns budget _ _ narrow none (all_bounds list bounds listed rows size least) = refl
+bounds_complete net ids columns budget _ _ narrow none (wide_bound list row listed wide) = absurd (none list row listed.is wide)
+bounds_complete net ids columns budget _ _ narrow none (no_semiflows status line fails) =
+    absurd (no_step_fails (incidence_of net) columns budget status line narrow fails)
+
+verdict_completes : (net : Net) (ids : ℕ → List ℕ) (limit status : ℕ) (text : List ℕ) → HasAtMostGrown net limit → CommonerOutcome net ids limit status text → status ≡ 0
+verdict_completes net ids limit _ _ few (verdict one text also is spelled) = refl
+verdict_completes net ids limit _ _ few (no_siphons status line passed) =
+    absurd (not_passed (IsGrownSet net) limit status line (λ carried. (few_not_many net limit carried).siphons few) passed)
+
 task_completes : (task : Task) (budgets : Budgets) (document : Document) (net : NetLists) (status : ℕ) (text : List ℕ)
     → IsNarrow task budgets net → IsFew task budgets net → TaskOutcome task budgets document net status text → status ≡ 0
 task_completes tasks.Check budgets document net status text narrow few outcome = outcome.0
@@ -76,6 +91,8 @@ task_completes tasks.Siphons budgets document net status text narrow few outcome
     sets_complete _ _ _ _ budgets.sets status text (λ carried. (few_not_many (net_of net) budgets.sets carried).siphons few) outcome
 task_completes tasks.Traps budgets document net status text narrow few outcome =
     sets_complete _ _ _ _ budgets.sets status text (λ carried. (few_not_many (net_of net) budgets.sets carried).traps few) outcome
+task_completes tasks.Bounds budgets document net status text narrow few outcome = bounds_complete _ _ _ _ status text narrow.0 narrow.1 outcome
+task_completes tasks.Commoner budgets document net status text narrow few outcome = verdict_completes _ _ _ status text few outcome
 
 -- ---- the run
 

@@ -1,6 +1,6 @@
 -- The ways in which a run ends, one lemma each, over what the devices told: the facts of the last call are
 -- put beside the fields of the run that speak of its status, and the others are void.
-use Rattle.std.proofs.Common.{◌≡◌, ◌≢◌, ℕ, ◌+◌, ◌≤◌, List, [], length, refl, sym, subst, arith, inl, inr, ◌⊎◌}
+use Rattle.std.proofs.Common.{IsErrAnd, Result, Ok, Err, ◌≡◌, ◌≢◌, ℕ, ◌+◌, ◌≤◌, List, [], length, refl, sym, subst, arith, inl, inr, ◌⊎◌}
 use Rattle.std.proofs.KnownBytes.{Keeps-refl, Consumes-nil}
 use Rattle.std.specs.Io.KnownBytes.{Appends}
 use Rattle.net_values.specs.declared.limits.TheConstants.{MAX_INPUT_BYTES}
@@ -9,7 +9,7 @@ use Rattle.pnml_source.specs.Streams.{AppendsFront, TakesAtMost, TakesExactly, I
 use Rattle.struct_core.specs.declared.order.Order.{Order}
 use Rattle.report.specs.declared.refusal.Refusal.{Refusal}
 use Rattle.report.specs.Refusals.{status_of, line_of}
-use Rattle.struct_core.specs.Answers.{IsMemory, IsTold}
+use Rattle.struct_core.specs.Answers.{IsMemory, IsTold, status_after, line_after}
 use Rattle.struct_core.specs.Words.{Means}
 use Rattle.report.specs.FaultLines.{usage_line, length_line, read_line, write_line, memory_line}
 use Rattle.struct_core.specs.Outcome.{Outcome}
@@ -217,3 +217,10 @@ not_answered words order source source' out input refusal means reads (inl memor
     (out_of_memory words order source source' out means reads.kept (taken_whole source source' input reads)))
 not_answered words order source source' out input refusal means reads (inr told) =
     refused words order source source' out input (status_of refusal) (line_of refusal) told.low told.high means reads told.outcome
+
+-- a result that is the refusal ends so
+pub refused_so : {T : Type 0} (words : List (List ℕ)) (source source' out out' : Device) (result : Result T Refusal) (refusal : Refusal) → IsErrAnd result (λ x. x ≡ refusal)
+    → Ran words source source' out out' (status_of refusal) (line_of refusal) → Ran words source source' out out' (status_after result) (line_after result)
+refused_so words source source' out out' (Ok done) refusal same ran = absurd same
+refused_so words source source' out out' (Err error) refusal same ran =
+    subst (λ (r : Refusal). Ran words source source' out out' (status_of r) (line_of r)) (sym same) ran

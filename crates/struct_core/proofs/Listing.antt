@@ -1,5 +1,6 @@
 -- What the lists of a net, and the faults of listing them, tell.
-use Rattle.std.proofs.Common.{◌≡◌, ℕ, ◌<◌, List, sym, subst, arith, inl, inr, ◌∙◌}
+use Rattle.page_flatten.proofs.FaultLaws.{err_goes}
+use Rattle.std.proofs.Common.{IsErrAnd, IfErr, Result, ◌≡◌, ℕ, ◌<◌, List, sym, subst, arith, inl, inr, ◌∙◌}
 use Rattle.std.specs.Prelude.{Bool, All, Contains, length}
 use Rattle.std.specs.Cmp.Lexicographic.{slice_cmp}
 use Rattle.std.specs.Ordering.{nat_cmp, bool_cmp}
@@ -8,10 +9,11 @@ use Rattle.net_values.specs.Net.{Net, reversed}
 use Rattle.net_values.specs.TheList.{IsTheList}
 use Rattle.closed_sets.specs.MinimalSets.{IsMinimalSet, IsMinimalTrapSet}
 use Rattle.incidence.specs.Matrix.{Matrix}
-use Rattle.incidence.specs.Semiflow.{all_columns}
+use Rattle.incidence.specs.Semiflow.{all_columns, IsSemiflow}
 use Rattle.semiflow_elim.specs.declared.fault.ElimFault.{ElimFault}
 use Rattle.semiflow_elim.specs.declared.fault.ElimFault.TheVariants as faults
 use Rattle.semiflow_elim.specs.Bases.{IsMinimalRow}
+use Rattle.semiflow_elim.specs.Generated.{IsGenerated}
 use Rattle.semiflow_elim.specs.FirstFail.{StepPasses, IsExplained}
 use Rattle.siphon_branch.specs.declared.fault.SetFault.{SetFault}
 use Rattle.siphon_branch.specs.declared.fault.SetFault.TheVariants as limits
@@ -41,6 +43,11 @@ pub listed_for : (m n : Matrix) (budget : ℕ) (list : List (List ℕ)) → m �
     → IsTheList (slice_cmp nat_cmp) (IsMinimalRow m all_columns) list → AreListed n budget list
 listed_for m n budget list same passes is = subst (λ k. AreListed k budget list) same record { passes = passes; is = is }
 
+pub generated_for : (m n : Matrix) (list : List (List ℕ)) → m ≡ n → ((y : ℕ → ℕ) → IsSemiflow m all_columns y → IsGenerated m list y)
+    → (y : ℕ → ℕ) → IsSemiflow n all_columns y → IsGenerated n list y
+generated_for m n list same generates =
+    subst (λ k. (y : ℕ → ℕ) → IsSemiflow k all_columns y → IsGenerated k list y) same generates
+
 pub rows_sized : (m : Matrix) (n : ℕ) (list : List (List ℕ)) → m.rows ≡ n
     → IsTheList (slice_cmp nat_cmp) (IsMinimalRow m all_columns) list → All (λ row. length row ≡ n) list
 rows_sized m n list same is = each_member (λ row. length row ≡ n) list (λ row here. ((is.members row).0 here).size ∙ same)
@@ -50,9 +57,14 @@ pub semiflows_told : (m : Matrix) (ids columns : ℕ → List ℕ) (budget : ℕ
 semiflows_told m ids columns budget list text listed same =
     subst (λ (t : List ℕ). SemiflowOutcome m ids columns budget 0 t) (sym same) (all_semiflows list listed)
 
-pub semiflows_fail : (m : Matrix) (ids columns : ℕ → List ℕ) (budget : ℕ) (refusal : Refusal) → FailsWith (FailedStep m columns budget) refusal
+semiflows_fail : (m : Matrix) (ids columns : ℕ → List ℕ) (budget : ℕ) (refusal : Refusal) → FailsWith (FailedStep m columns budget) refusal
     → FailsWith (SemiflowOutcome m ids columns budget) refusal
 semiflows_fail m ids columns budget refusal = fails_so _ _ refusal (λ status line is. step_fails status line is)
+
+pub semiflows_refused : {T : Type 0} (m : Matrix) (ids columns : ℕ → List ℕ) (budget : ℕ) (result : Result T Refusal) (refusal : Refusal) → IsErrAnd result (λ x. x ≡ refusal)
+    → FailsWith (FailedStep m columns budget) refusal → IfErr result (FailsWith (SemiflowOutcome m ids columns budget))
+semiflows_refused m ids columns budget result refusal same fails =
+    err_goes (FailsWith (SemiflowOutcome m ids columns budget)) result refusal same (semiflows_fail m ids columns budget refusal fails)
 
 -- of an equal matrix
 pub failure_as : (m n : Matrix) (columns : ℕ → List ℕ) (budget : ℕ) (refusal : Refusal) → m ≡ n → FailsWith (FailedStep m columns budget) refusal
@@ -106,9 +118,14 @@ pub siphons_told : (net : Net) (word : List ℕ) (ids : ℕ → List ℕ) (limit
 siphons_told net word ids limit list text few is same =
     subst (λ (t : List ℕ). SetOutcome (IsMinimalSet net) (IsGrownSet net) word ids limit 0 t) (sym same) (all_sets list few is)
 
-pub siphons_fail : (net : Net) (word : List ℕ) (ids : ℕ → List ℕ) (limit : ℕ) (refusal : Refusal) → FailsWith (PassedLimit (IsGrownSet net) limit) refusal
+siphons_fail : (net : Net) (word : List ℕ) (ids : ℕ → List ℕ) (limit : ℕ) (refusal : Refusal) → FailsWith (PassedLimit (IsGrownSet net) limit) refusal
     → FailsWith (SetOutcome (IsMinimalSet net) (IsGrownSet net) word ids limit) refusal
 siphons_fail net word ids limit refusal = fails_so _ _ refusal (λ status line is. passes_limit status line is)
+
+pub siphons_refused : {T : Type 0} (net : Net) (word : List ℕ) (ids : ℕ → List ℕ) (limit : ℕ) (result : Result T Refusal) (refusal : Refusal) → IsErrAnd result (λ x. x ≡ refusal)
+    → FailsWith (PassedLimit (IsGrownSet net) limit) refusal → IfErr result (FailsWith (SetOutcome (IsMinimalSet net) (IsGrownSet net) word ids limit))
+siphons_refused net word ids limit result refusal same fails =
+    err_goes (FailsWith (SetOutcome (IsMinimalSet net) (IsGrownSet net) word ids limit)) result refusal same (siphons_fail net word ids limit refusal fails)
 
 -- the siphons of the net with every arc turned round are the traps
 pub traps_told : (net turned : Net) (word : List ℕ) (ids : ℕ → List ℕ) (limit : ℕ) (list : List (List Bool)) (text : List ℕ) → turned ≡ reversed net
@@ -123,8 +140,14 @@ traps_passed : (net : Net) (limit status : ℕ) (line : List ℕ) → PassedLimi
     → PassedLimit (IsGrownTrapSet net) limit status line
 traps_passed net limit _ _ (set_limit carried many) = set_limit carried ((trap_lists net limit carried).many.1 many)
 
-pub traps_fail : (net turned : Net) (word : List ℕ) (ids : ℕ → List ℕ) (limit : ℕ) (refusal : Refusal) → turned ≡ reversed net
+traps_fail : (net turned : Net) (word : List ℕ) (ids : ℕ → List ℕ) (limit : ℕ) (refusal : Refusal) → turned ≡ reversed net
     → FailsWith (PassedLimit (IsGrownSet turned) limit) refusal → FailsWith (SetOutcome (IsMinimalTrapSet net) (IsGrownTrapSet net) word ids limit) refusal
 traps_fail net turned word ids limit refusal one fails =
     fails_so _ _ refusal (λ status line is. passes_limit status line (traps_passed net limit status line is))
     (subst (λ n. FailsWith (PassedLimit (IsGrownSet n) limit) refusal) one fails)
+
+pub traps_refused : {T : Type 0} (net turned : Net) (word : List ℕ) (ids : ℕ → List ℕ) (limit : ℕ) (result : Result T Refusal) (refusal : Refusal) → turned ≡ reversed net
+    → IsErrAnd result (λ x. x ≡ refusal) → FailsWith (PassedLimit (IsGrownSet turned) limit) refusal
+    → IfErr result (FailsWith (SetOutcome (IsMinimalTrapSet net) (IsGrownTrapSet net) word ids limit))
+traps_refused net turned word ids limit result refusal one same fails =
+    err_goes (FailsWith (SetOutcome (IsMinimalTrapSet net) (IsGrownTrapSet net) word ids limit)) result refusal same (traps_fail net turned word ids limit refusal one fails)

@@ -12,7 +12,7 @@ use Rattle.struct_core.specs.Outcome.{HasClass}
 
 -- ---- of what is decided, more is decided
 
-both : (P Q : Type 0) → Decided P → Decided Q → Decided (P × Q)
+pub both : (P Q : Type 0) → Decided P → Decided Q → Decided (P × Q)
 both P Q (inl p) (inl q) = inl (p, q)
 both P Q (inl p) (inr q) = inr (λ h. q h.1)
 both P Q (inr p) q = inr (λ h. p h.0)
@@ -71,7 +71,7 @@ at_most m n = elim (cases_lt n m) [
   | inr holds ↦ inl holds
 ]
 
-positive : (n : ℕ) → Decided (0 < n)
+pub positive : (n : ℕ) → Decided (0 < n)
 positive n = at_most 1 n
 
 -- ---- classes
@@ -81,7 +81,7 @@ module _ (net : Net) where
   unit_weights p =
       all_below (λ t. (net.pre p t ≤ 1) × (net.post p t ≤ 1)) (λ t. both _ _ (at_most (net.pre p t) 1) (at_most (net.post p t) 1)) net.transitions
 
-  ordinary_or_not : Decided (IsOrdinary net)
+  pub ordinary_or_not : Decided (IsOrdinary net)
   ordinary_or_not = elim (all_below (λ p. (t : ℕ) → t < net.transitions → (net.pre p t ≤ 1) × (net.post p t ≤ 1)) unit_weights net.places) [
     | inl holds ↦ inl (λ p t place transition. holds p place t transition)
     | inr lacks ↦ inr (λ h. lacks (λ p place t transition. h p t place transition))
@@ -125,11 +125,11 @@ module _ (net : Net) where
 
 -- ---- the tests of a class
 
-abbrev truth_of : {P : Type 0} → Decided P → Bool
+abbrev pub truth_of : {P : Type 0} → Decided P → Bool
 truth_of (inl holds) = true
 truth_of (inr lacks) = false
 
-tells_truth : {P : Type 0} (decision : Decided P) → IsTrue (truth_of decision) ↔ P
+pub tells_truth : {P : Type 0} (decision : Decided P) → IsTrue (truth_of decision) ↔ P
 tells_truth (inl holds) = (λ h. holds, λ h. refl)
 tells_truth (inr lacks) = (λ h. absurd (cc), λ h. absurd (lacks h))
 

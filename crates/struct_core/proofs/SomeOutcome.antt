@@ -1,10 +1,11 @@
 -- Every input has an outcome: it has a first fault or spells a document, which breaks a rule first or has a
 -- flat net, and of that net the task has an outcome.
-use Rattle.std.proofs.Common.{◌⊎◌, ℕ, List, refl, inl, inr}
+use Rattle.std.proofs.Common.{◌++◌, ◌⊎◌, ℕ, List, length, refl, inl, inr}
 use Rattle.std.specs.Prelude.{Bool}
 use Rattle.net_values.specs.declared.document.Document.{Document}
+use Rattle.net_values.specs.Net.{Net}
 use Rattle.net_values.specs.FlatNets.{NetLists, net_of}
-use Rattle.incidence.specs.Matrix.{Matrix}
+use Rattle.incidence.specs.Matrix.{Matrix, incidence_of}
 use Rattle.semiflow_elim.specs.declared.fault.ElimFault.{ElimFault}
 use Rattle.semiflow_elim.specs.declared.fault.ElimFault.TheVariants as faults
 use Rattle.semiflow_elim.specs.FirstFail.{IsFirstFail}
@@ -19,23 +20,33 @@ use Rattle.page_flatten.specs.Flat.{Flat}
 use Rattle.page_flatten.specs.Laws.{HasFlatNet}
 use Rattle.page_flatten.proofs.OneAnswer.{breaks_where_faulty}
 use Rattle.page_flatten.proofs.SomeAnswer.{net_or_fault}
-use Rattle.report.specs.Texts.{check_text, class_text, semiflows_text, sets_text}
+use Rattle.report.specs.Texts.{check_text, class_text, semiflows_text, sets_text, bounds_text}
 use Rattle.struct_core.specs.declared.order.Task.{Task}
 use Rattle.struct_core.specs.declared.order.Task.TheVariants as tasks
 use Rattle.struct_core.specs.declared.order.Budgets.{Budgets}
 use Rattle.struct_core.specs.declared.order.Order.TheVariants.{Run}
-use Rattle.report.specs.FaultLines.{document_line, rule_line, wide_sum_line, wide_row_line, budget_line, limit_line}
-use Rattle.struct_core.specs.Enumerations.{FailedStep, wide_sum, wide_row, row_budget, SemiflowOutcome, all_semiflows, step_fails, SetOutcome, all_sets, passes_limit, set_limit}
+use Rattle.report.specs.FaultLines.{document_line, rule_line, wide_sum_line, wide_row_line, budget_line, limit_line, wide_bound_line}
+use Rattle.struct_core.specs.Enumerations.{AreListed, FailedStep, wide_sum, wide_row, row_budget, SemiflowOutcome, all_semiflows, step_fails, SetOutcome, all_sets, passes_limit, set_limit}
 use Rattle.struct_core.specs.Outcome.{TaskOutcome, Profile, Outcome, no_document, broken, answer}
 use Rattle.struct_core.specs.Determined.{IsEliminationDecided, IsDecided, HasSomeOutcome}
 use Rattle.struct_core.specs.Laws.{CanonStays}
 use Rattle.std.specs.Cmp.Lexicographic.{slice_cmp}
 use Rattle.std.specs.Ordering.{bool_cmp}
 use Rattle.net_values.specs.TheList.{IsTheList}
-use Rattle.siphon_branch.specs.Limits.{AtMostOrMore, HasAtMostGrown, PassesLimit}
+use Rattle.siphon_branch.specs.Limits.{AtMostOrMore}
 use Rattle.siphon_branch.proofs.Limits.{few_or_many, lists_there}
+use Rattle.bounds.specs.Listed.{AreNarrowRows, IsFirstWideRow}
+use Rattle.bounds.proofs.Sums.{Generate}
+use Rattle.struct_core.proofs.SomeBounds.{narrow_or_first_wide, all_kept, all_sized, all_least}
+use Rattle.struct_core.proofs.SomeVerdict.{verdict_of}
 use Rattle.struct_core.proofs.OneOutcome.{one_outcome}
-use Rattle.struct_core.proofs.SomeClass.{some_class}
+use Rattle.struct_core.proofs.SomeClass.{both, positive, ordinary_or_not, truth_of, tells_truth, some_class}
+use Rattle.page_flatten.proofs.Decisions.{Decided}
+use Rattle.net_class.specs.declared.verdict.Verdict.{Verdict}
+use Rattle.net_class.specs.declared.verdict.Verdict.TheVariants.{Yes, No}
+use Rattle.siphon_branch.specs.Limits.{IsGrownSet}
+use Rattle.report.specs.VerdictTexts.{ProvesDeadlockFree, verdict_lines, deadlock_line}
+use Rattle.struct_core.specs.Verdicts.{BoundOutcome, all_bounds, wide_bound, no_semiflows, IsVerdict, CommonerOutcome, verdict, no_siphons}
 
 -- ---- of a net
 
@@ -58,6 +69,37 @@ some_sets : (IsMinimal IsGrown : List Bool → Type 0) (word : List ℕ) (ids : 
 some_sets IsMinimal IsGrown word ids limit (inl few) list = (0, sets_text word ids list.0, all_sets list.0 few list.1)
 some_sets IsMinimal IsGrown word ids limit (inr many) list = (6, limit_line limit, passes_limit 6 (limit_line limit) (set_limit many.0 many.1))
 
+some_bounds_of : (net : Net) (ids columns : ℕ → List ℕ) (budget : ℕ) (list : List (List ℕ)) → AreListed (incidence_of net) budget list → Generate net list
+    → AreNarrowRows net list (length list) ⊎ ((row : ℕ) × IsFirstWideRow net list row)
+    → (status : ℕ) × (text : List ℕ) × BoundOutcome net ids columns budget status text
+some_bounds_of net ids columns budget list listed generates (inl narrow) =
+    let bounds = all_kept net list in
+    (0, bounds_text ids bounds, all_bounds list bounds listed narrow (all_sized net list) (all_least net list listed.is generates))
+some_bounds_of net ids columns budget list listed generates (inr wide) = (4, wide_bound_line wide.0, wide_bound list wide.0 listed wide.1)
+
+some_bounds : (net : Net) (ids columns : ℕ → List ℕ) (budget : ℕ) → IsEliminationDecided (incidence_of net) budget
+    → (status : ℕ) × (text : List ℕ) × BoundOutcome net ids columns budget status text
+some_bounds net ids columns budget (inl lists) = some_bounds_of net ids columns budget lists.0 lists.1 lists.2 (narrow_or_first_wide net lists.0)
+some_bounds net ids columns budget (inr fails) =
+    let failure = some_failure (incidence_of net) columns budget fails.0 fails.1 in (failure.0, failure.1, no_semiflows failure.0 failure.1 failure.2)
+
+proves : (net : Net) (one : Verdict) → Decided (ProvesDeadlockFree net one)
+proves net Yes = elim (both _ _ (ordinary_or_not net) (positive net.transitions)) [
+  | inl h ↦ inl record { yes = refl; ordinary = h.0; some_transition = h.1 }
+  | inr lacks ↦ inr (λ h. lacks (h.ordinary, h.some_transition))
+]
+proves net (No siphon) = inr (λ h. (let is = h.yes in cc))
+
+some_verdict : (net : Net) (ids : ℕ → List ℕ) (limit : ℕ) → AtMostOrMore (IsGrownSet net) limit → (one : Verdict) → IsVerdict net one
+    → (status : ℕ) × (text : List ℕ) × CommonerOutcome net ids limit status text
+some_verdict net ids limit (inl few) one is =
+    let text : List ℕ = verdict_lines ids one ++ deadlock_line (truth_of (proves net one)) in (
+      0,
+      text,
+      verdict one text few is record { is_proved = truth_of (proves net one); exact = tells_truth (proves net one); spelled = refl },
+    )
+some_verdict net ids limit (inr many) one is = (6, limit_line limit, no_siphons 6 (limit_line limit) (set_limit many.0 many.1))
+
 some_task_outcome : (task : Task) (budgets : Budgets) (document : Document) (net : NetLists) → IsDecided task budgets net
     → (status : ℕ) × (text : List ℕ) × TaskOutcome task budgets document net status text
 some_task_outcome tasks.Check budgets document net decided = (0, check_text (net_of net).places (net_of net).transitions net.arcs, (refl, refl))
@@ -70,6 +112,9 @@ some_task_outcome tasks.Siphons budgets document net decided =
     some_sets _ _ _ _ _ (few_or_many (net_of net) budgets.sets).siphons (lists_there (net_of net)).siphons
 some_task_outcome tasks.Traps budgets document net decided =
     some_sets _ _ _ _ _ (few_or_many (net_of net) budgets.sets).traps (lists_there (net_of net)).traps
+some_task_outcome tasks.Bounds budgets document net decided = some_bounds _ _ _ _ decided
+some_task_outcome tasks.Commoner budgets document net decided =
+    let is = verdict_of (net_of net) in some_verdict _ _ _ (few_or_many (net_of net) budgets.sets).siphons is.0 is.1
 
 -- ---- of an input
 

@@ -21,6 +21,7 @@ use Rattle.struct_core.specs.declared.order.Task.TheVariants as tasks
 use Rattle.struct_core.specs.declared.order.Budgets.{Budgets}
 use Rattle.struct_core.specs.declared.order.Order.TheVariants.{Run}
 use Rattle.struct_core.specs.Enumerations.{SemiflowOutcome, SetOutcome}
+use Rattle.struct_core.specs.Verdicts.{BoundOutcome, CommonerOutcome}
 use Rattle.struct_core.specs.Outcome.{HasClass, TaskOutcome, Profile, Outcome, no_document, broken, answer}
 use Rattle.struct_core.proofs.SameNets.{same_net, same_place_ids, same_transition_ids}
 
@@ -56,6 +57,10 @@ outcome_as tasks.Siphons budgets document one other status text same is =
     subst (λ (n : Named). SetOutcome (IsMinimalSet n.0) (IsGrownSet n.0) (codes "siphons") n.1 budgets.sets status text) (same_named one other same) is
 outcome_as tasks.Traps budgets document one other status text same is =
     subst (λ (n : Named). SetOutcome (IsMinimalTrapSet n.0) (IsGrownTrapSet n.0) (codes "traps") n.1 budgets.sets status text) (same_named one other same) is
+outcome_as tasks.Bounds budgets document one other status text same is =
+    subst (λ (n : Named). BoundOutcome n.0 n.1 n.2 budgets.rows status text) (same_named one other same) is
+outcome_as tasks.Commoner budgets document one other status text same is =
+    subst (λ (n : Named). CommonerOutcome n.0 n.1 budgets.sets status text) (same_named one other same) is
 
 -- ---- an order
 

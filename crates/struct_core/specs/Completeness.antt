@@ -5,7 +5,14 @@ use Rattle.std.specs.Io.KnownBytes.{Appends}
 use Rattle.net_values.specs.declared.document.Document.{Document}
 use Rattle.net_values.specs.declared.limits.TheConstants.{MAX_INPUT_BYTES}
 use Rattle.net_values.specs.FlatNets.{NetLists, net_of}
+use Rattle.net_values.specs.Net.{Net}
+use Rattle.net_values.specs.TheList.{IsTheList}
 use Rattle.page_flatten.specs.Flat.{Flat}
+use Rattle.bounds.specs.Listed.{IsFirstWideRow}
+use Rattle.incidence.specs.Semiflow.{all_columns}
+use Rattle.semiflow_elim.specs.Bases.{IsMinimalRow}
+use Rattle.std.specs.Cmp.Lexicographic.{slice_cmp}
+use Rattle.std.specs.Ordering.{nat_cmp}
 use Rattle.incidence.specs.Matrix.{Matrix, incidence_of, transposed}
 use Rattle.semiflow_elim.specs.declared.fault.ElimFault.{ElimFault}
 use Rattle.semiflow_elim.specs.FirstFail.{IsFirstFail}
@@ -33,16 +40,23 @@ pub record IsShort (bytes : List ℕ) (document : Document) : Type 0 where
 abbrev pub NoStepFails : Matrix → ℕ → Type 0
 NoStepFails m budget = (fault : ElimFault) → IsFirstFail m budget fault → ⊥
 
+-- no listed semiflow of places is wide
+abbrev pub NoBoundIsWide : Net → Type 0
+NoBoundIsWide net = (list : List (List ℕ)) (row : ℕ) → IsTheList (slice_cmp nat_cmp) (IsMinimalRow (incidence_of net) all_columns) list
+    → IsFirstWideRow net list row → ⊥
+
 -- no number of the task is wide, and no step has more candidates than the budget
 abbrev pub IsNarrow : Task → Budgets → NetLists → Type 0
 IsNarrow tasks.Places budgets net = NoStepFails (incidence_of (net_of net)) budgets.rows
 IsNarrow tasks.Transitions budgets net = NoStepFails (transposed (incidence_of (net_of net))) budgets.rows
+IsNarrow tasks.Bounds budgets net = NoStepFails (incidence_of (net_of net)) budgets.rows × NoBoundIsWide (net_of net)
 IsNarrow _ budgets net = Unit
 
 -- the sets that the task's search meets are no more than the limit
 abbrev pub IsFew : Task → Budgets → NetLists → Type 0
 IsFew tasks.Siphons budgets net = HasAtMostGrown (net_of net) budgets.sets
 IsFew tasks.Traps budgets net = HasAtMostGrownTraps (net_of net) budgets.sets
+IsFew tasks.Commoner budgets net = HasAtMostGrown (net_of net) budgets.sets
 IsFew _ budgets net = Unit
 
 -- the status is 0, and the text of the order for the input was written

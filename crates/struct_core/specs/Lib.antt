@@ -2,6 +2,7 @@
 pub mod Words
 pub mod Matrices
 pub mod Enumerations
+pub mod Verdicts
 pub mod Outcome
 pub mod Answers
 pub mod Run

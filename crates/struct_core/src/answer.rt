@@ -4,8 +4,10 @@ ghost use Rattle.struct_core.specs.Outcome.{Outcome, TaskOutcome};
 ghost use Rattle.struct_core.specs.Answers.{FailsWith};
 
 use crate::order::{Budgets, Order, Task};
+use crate::place_bounds::bound_report;
 use crate::semiflows::semiflow_report;
 use crate::siphons::{siphon_report, trap_report};
+use crate::verdicts::commoner_report;
 use net_class::class;
 use net_values::{Document, FlatNet, NodeKind, Text};
 use page_flatten::flatten;
@@ -59,5 +61,7 @@ fn text_of(
         Task::Transitions => semiflow_report(alloc, net, NodeKind::Transition, budgets.rows),
         Task::Siphons => siphon_report(alloc, net, budgets.sets),
         Task::Traps => trap_report(alloc, net, budgets.sets),
+        Task::Bounds => bound_report(alloc, net, budgets.rows),
+        Task::Commoner => commoner_report(alloc, net, budgets.sets),
     }
 }

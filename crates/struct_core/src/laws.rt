@@ -1,6 +1,6 @@
 ghost use Rattle.struct_core.specs.Completeness.{QuietRunsComplete};
 ghost use Rattle.struct_core.specs.Determined.{HasOneOutcome, HasSomeOutcome};
-ghost use Rattle.struct_core.specs.Laws.{PrintSemiflows, PrintClosedSets, CanonStays};
+ghost use Rattle.struct_core.specs.Laws.{PrintSemiflows, PrintClosedSets, PrintBoundsThatHold, PrintLeastBounds, ProvedNetsNeverDie, CanonStays};
 
 /// Every vector that `places` and `transitions` print is a semiflow (Colom and Silva 1991).
 pub fn printed_vectors_are_semiflows()
@@ -10,6 +10,22 @@ pub fn printed_vectors_are_semiflows()
 /// Every set that `siphons` and `traps` print is a siphon, or a trap (Murata 1989).
 pub fn printed_sets_are_closed()
     ensures { PrintClosedSets }
+{}
+
+/// At every reachable marking a place has at most as many tokens as `bounds` prints for it (Murata 1989).
+pub fn printed_bounds_hold()
+    ensures { PrintBoundsThatHold }
+{}
+
+/// `bounds` prints for each place the least bound that a semiflow of places gives, and none where none covers
+/// it.
+pub fn printed_bounds_are_least()
+    ensures { PrintLeastBounds }
+{}
+
+/// Where `commoner` prints `deadlock-free proved`, no reachable marking is dead (Hack 1972, Murata 1989).
+pub fn deadlock_free_is_proved()
+    ensures { ProvedNetsNeverDie }
 {}
 
 /// `canon` of a canonical text writes that text and does nothing else, where the document breaks no rule.

@@ -4,13 +4,16 @@
 mod answer;
 mod laws;
 mod order;
+mod place_bounds;
 mod running;
 mod semiflows;
 mod siphons;
+mod verdicts;
 mod words;
 
 pub use laws::{
-    canonical_text_stays, one_outcome, printed_sets_are_closed, printed_vectors_are_semiflows,
+    canonical_text_stays, deadlock_free_is_proved, one_outcome, printed_bounds_are_least,
+    printed_bounds_hold, printed_sets_are_closed, printed_vectors_are_semiflows,
     quiet_runs_complete, some_outcome,
 };
 pub use order::{Budgets, Order, Task};

@@ -15,6 +15,10 @@ pub enum Task {
     Siphons,
     /// The minimal traps.
     Traps,
+    /// The least bound of each place that the semiflows of places give.
+    Bounds,
+    /// Whether every siphon contains a marked trap.
+    Commoner,
 }
 
 /// How much the enumerations may take.

@@ -28,10 +28,7 @@ fn work<S: Source, O: Sink>(
         Err(ReadAllFault::TooLong) => return Err(Refusal::TooLong),
         Err(ReadAllFault::NoMemory) => return Err(Refusal::NoMemory),
     };
-    let text = match answer(alloc, order, bytes.as_slice()) {
-        Ok(text) => text,
-        Err(refusal) => return Err(refusal),
-    };
+    let text = answer(alloc, order, bytes.as_slice())?;
     match write_all(out, text.as_bytes()) {
         Ok(()) => Ok(()),
         Err(_) => Err(Refusal::WriteFault),

@@ -1,7 +1,9 @@
-ghost use Rattle.std.specs.Prelude.{◌≡◌, ◌<◌, All, IfOk, IfErr, length};
+ghost use Rattle.std.specs.Prelude.{◌≡◌, ℕ, ◌<◌, All, IfOk, IfErr, length};
 ghost use Rattle.incidence.specs.Tables.{matrix_of};
 ghost use Rattle.net_values.specs.Nodes.{node_count, node_id, other_kind};
+ghost use Rattle.incidence.specs.Semiflow.{IsSemiflow, all_columns};
 ghost use Rattle.semiflow_elim.specs.FirstFail.{IsExplained};
+ghost use Rattle.semiflow_elim.specs.Generated.{IsGenerated};
 ghost use Rattle.report.specs.Texts.{semiflows_text};
 ghost use Rattle.report.specs.declared.refusal.Refusal.{Refusal as Refusing};
 ghost use Rattle.struct_core.specs.Answers.{FailsWith};
@@ -26,10 +28,8 @@ pub(crate) fn semiflow_report(
     ensures refused { IfErr result (FailsWith (SemiflowOutcome (matrix_of_kind kind net.now) (node_id kind net.now)
         (node_id (other_kind kind) net.now) budget)) }
 {
-    match list_semiflows(alloc, net, kind, budget) {
-        Ok(rows) => Ok(text_of(alloc, net, kind, &rows)?),
-        Err(refusal) => Err(refusal),
-    }
+    let rows = list_semiflows(alloc, net, kind, budget)?;
+    Ok(text_of(alloc, net, kind, &rows)?)
 }
 
 /// The minimal semiflows of places or of transitions, strictly ascending.
@@ -40,6 +40,8 @@ pub(crate) fn list_semiflows(
     budget: u32,
 ) -> Result<Rows, Refusal>
     ensures listed { IfOk result (AreListed (matrix_of_kind kind net.now) budget) }
+    ensures generates { IfOk result (λ list. (y : ℕ → ℕ) → IsSemiflow (matrix_of_kind kind net.now) all_columns y →
+        IsGenerated (matrix_of_kind kind net.now) list y) }
     ensures sizes { IfOk result (All (λ row. length row ≡ node_count kind net.now)) }
     ensures refused { IfErr result (FailsWith (FailedStep (matrix_of_kind kind net.now) (node_id (other_kind kind) net.now) budget)) }
 {

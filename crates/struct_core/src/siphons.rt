@@ -21,10 +21,8 @@ pub(crate) fn siphon_report(alloc: Global, net: &FlatNet, limit: u32) -> Result<
     ensures refused { IfErr result (FailsWith (SetOutcome (IsMinimalSet (net_of net.now)) (IsGrownSet (net_of net.now))
         (codes "siphons") (place_id net.now) limit)) }
 {
-    match list_siphons(alloc, net, limit) {
-        Ok(sets) => Ok(siphons_text(alloc, net, &sets)?),
-        Err(refusal) => Err(refusal),
-    }
+    let sets = list_siphons(alloc, net, limit)?;
+    Ok(siphons_text(alloc, net, &sets)?)
 }
 
 /// The text of `traps`, where at most `limit` are grown. They are the siphons of the net with every arc turned
@@ -36,10 +34,8 @@ pub(crate) fn trap_report(alloc: Global, net: &FlatNet, limit: u32) -> Result<Te
         (codes "traps") (place_id net.now) limit)) }
 {
     let turned = net.reverse(alloc)?;
-    match list_siphons(alloc, &turned, limit) {
-        Ok(sets) => Ok(traps_text(alloc, net, &sets)?),
-        Err(refusal) => Err(refusal),
-    }
+    let sets = list_siphons(alloc, &turned, limit)?;
+    Ok(traps_text(alloc, net, &sets)?)
 }
 
 /// The minimal siphons of a net, strictly ascending.
