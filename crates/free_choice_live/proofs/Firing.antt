@@ -2,12 +2,12 @@
 -- a token keeps one, since by free choice a transition that takes it could fire only where the lost one
 -- could; and a lost transition has an input place without a token.
 use Rattle.std.proofs.Common.{◌≡◌, refl, ap, ◌∙◌, ℕ, ◌+◌, ◌-◌, ◌<◌, List, [], ◌∷◌, ◌++◌, ltb, inl, inr, arith}
-use Rattle.std.proofs.lemmas.Bool.{cases_lt, ltb-true, ltb-false}
+use Rattle.std.proofs.lemmas.Bool.{cases_lt, ltb-true, ltb-false, cases_Bool}
 use Rattle.net_values.specs.Net.{Net}
 use Rattle.net_values.specs.TokenGame.{IsEnabled, after, Reach, IsReachable, IsDead}
 use Rattle.closed_sets.specs.ClosedSets.{any_below}
 use Rattle.closed_sets.specs.Commoner.{IsOrdinary}
-use Rattle.closed_sets.proofs.Below.{cases_bool, any_from, none_at}
+use Rattle.closed_sets.proofs.Below.{any_from, none_at}
 use Rattle.net_class.specs.Classes.{IsFreeChoice}
 use Rattle.free_choice_live.specs.Live.{IsLost, LiveNetsNeverDie}
 
@@ -76,7 +76,7 @@ pub record IsEmptyInput (net : Net) (M : ℕ → ℕ) (t p : ℕ) : Type 0 where
 
 pub lost_input : (net : Net) (M : ℕ → ℕ) (t : ℕ) → IsOrdinary net → t < net.transitions → IsLost net M t → (p : ℕ) × IsEmptyInput net M t p
 lost_input net M t ordinary below lost =
-    elim (cases_bool (any_below net.places (λ p. ltb (M p) (net.pre p t)))) [
+    elim (cases_Bool (any_below net.places (λ p. ltb (M p) (net.pre p t)))) [
       | inl some ↦
           let at = any_from net.places (λ p. ltb (M p) (net.pre p t)) some in
           let less = ltb-true (M at.0) (net.pre at.0 t) at.2 in

@@ -4,13 +4,13 @@
 -- transition gives to a stuck place and takes from none; it isn't among the lost ones, as those have a stuck
 -- input place. It is lost too: firing it would leave fewer stuck places. So there are more lost transitions,
 -- and both numbers are bounded.
-use Rattle.std.proofs.Common.{◌≡◌, refl, ℕ, zero, suc, ◌<◌, List, [], ◌∷◌, ◌++◌, Bool, true, false, IsTrue, ◌&&◌, ◌||◌, ◌==◌, not, ltb, inl, inr, arith}
-use Rattle.std.proofs.lemmas.Bool.{cases_lt, eq-eqb, eqb-true, lt-ltb, ltb-true}
+use Rattle.std.proofs.Common.{◌≡◌, refl, ℕ, zero, suc, ◌<◌, List, [], ◌∷◌, ◌++◌, Bool, false, IsTrue, ◌&&◌, ◌||◌, ◌==◌, not, ltb, inl, inr, arith}
+use Rattle.std.proofs.lemmas.Bool.{cases_lt, eq-eqb, eqb-true, lt-ltb, ltb-true, and_from, and_parts, both_ways, cases_Bool, not-true, not_from_false, or_left, or_right, or_cases}
 use Rattle.net_values.specs.Net.{Net}
 use Rattle.net_values.specs.TokenGame.{after, Reach, IsReachable}
 use Rattle.closed_sets.specs.ClosedSets.{any_below, has_input_in, IsSiphon}
 use Rattle.closed_sets.specs.Commoner.{MeetsCommoner}
-use Rattle.closed_sets.proofs.Below.{cases_bool, apart, both, both_left, both_right, not_true, not_false, any_at, any_from, pair_at, pair_from}
+use Rattle.closed_sets.proofs.Below.{any_at, any_from, pair_at, pair_from}
 use Rattle.closed_sets.proofs.Firing.{trap_along}
 use Rattle.net_class.specs.Classes.{IsFreeChoice}
 use Rattle.free_choice_live.specs.Live.{IsLost, IsLive, CommonerGivesLiveness}
@@ -37,36 +37,20 @@ others D t = not (D t)
 abbrev with_one : (ℕ → Bool) → ℕ → ℕ → Bool
 with_one D t u = u == t || D u
 
-or_left : (a b : Bool) → IsTrue a → IsTrue (a || b)
-or_left true b holds = refl
-or_left false b holds = absurd (apart false holds refl)
-
-or_right : (a b : Bool) → IsTrue b → IsTrue (a || b)
-or_right true b holds = refl
-or_right false b holds = holds
-
-or_cases : (a b : Bool) (P : Type 0) → (IsTrue a → P) → (IsTrue b → P) → IsTrue (a || b) → P
-or_cases true b P left right holds = left refl
-or_cases false b P left right holds = right holds
-
-and_false : (a b : Bool) → a ≡ false → (a && b) ≡ false
-and_false true b fails = absurd (apart true refl fails)
-and_false false b fails = refl
-
 module _ (net : Net) (choice : IsFreeChoice net) (commoner : MeetsCommoner net) where
   stuck_at : (M : ℕ → ℕ) (D : ℕ → Bool) (p t : ℕ) → M p ≡ 0 → t < net.transitions → IsTrue (D t) → 0 < net.pre p t → IsTrue (stuck net M D p)
   stuck_at M D p t empty below member input =
-      both (M p == 0) (any_below net.transitions (λ t. D t && ltb 0 (net.pre p t))) (eq-eqb (M p) 0 empty)
-      (any_at net.transitions (λ t. D t && ltb 0 (net.pre p t)) t below (both (D t) (ltb 0 (net.pre p t)) member (lt-ltb 0 (net.pre p t) input)))
+      and_from (M p == 0) (any_below net.transitions (λ t. D t && ltb 0 (net.pre p t))) (eq-eqb (M p) 0 empty)
+      (any_at net.transitions (λ t. D t && ltb 0 (net.pre p t)) t below (and_from (D t) (ltb 0 (net.pre p t)) member (lt-ltb 0 (net.pre p t) input)))
 
   stuck_empty : (M : ℕ → ℕ) (D : ℕ → Bool) (p : ℕ) → IsTrue (stuck net M D p) → M p ≡ 0
-  stuck_empty M D p here = eqb-true (M p) 0 (both_left (M p == 0) (any_below net.transitions (λ t. D t && ltb 0 (net.pre p t))) here)
+  stuck_empty M D p here = eqb-true (M p) 0 ((and_parts (M p == 0) (any_below net.transitions (λ t. D t && ltb 0 (net.pre p t))) here).0)
 
   -- a transition of the set that takes from the stuck place
   stuck_by : (M : ℕ → ℕ) (D : ℕ → Bool) (p : ℕ) → IsTrue (stuck net M D p) → (t : ℕ) × (t < net.transitions) × IsTrue (D t) × (0 < net.pre p t)
   stuck_by M D p here =
-      let at = any_from net.transitions (λ t. D t && ltb 0 (net.pre p t)) (both_right (M p == 0) (any_below net.transitions (λ t. D t && ltb 0 (net.pre p t))) here) in
-      (at.0, at.1, both_left (D at.0) (ltb 0 (net.pre p at.0)) at.2, ltb-true 0 (net.pre p at.0) (both_right (D at.0) (ltb 0 (net.pre p at.0)) at.2))
+      let at = any_from net.transitions (λ t. D t && ltb 0 (net.pre p t)) ((and_parts (M p == 0) (any_below net.transitions (λ t. D t && ltb 0 (net.pre p t))) here).1) in
+      (at.0, at.1, (and_parts (D at.0) (ltb 0 (net.pre p at.0)) at.2).0, ltb-true 0 (net.pre p at.0) ((and_parts (D at.0) (ltb 0 (net.pre p at.0)) at.2).1))
 
   -- the stuck places are no siphon
   no_siphon : (M : ℕ → ℕ) (D : ℕ → Bool) → AreLost net M D → IsSiphon net (stuck net M D) → ⊥
@@ -103,7 +87,10 @@ module _ (net : Net) (choice : IsFreeChoice net) (commoner : MeetsCommoner net) 
   lost_with : (M : ℕ → ℕ) (D : ℕ → Bool) (t : ℕ) → AreLost net M D → IsLost net M t → AreLost net M (with_one D t)
   lost_with M D t all lost = record {
     reachable = all.reachable;
-    lost = λ u below. or_cases (u == t) (D u) (IsLost net M u) (λ same. rw (eqb-true u t same) lost) (all.lost u below);
+    lost = λ u below member. elim (or_cases (u == t) (D u) member) [
+      | inl same ↦ rw (eqb-true u t same) lost
+      | inr other ↦ all.lost u below other
+    ];
     one = all.one;
     within = all.within;
     member = or_right (all.one == t) (D all.one) all.member;
@@ -112,20 +99,20 @@ module _ (net : Net) (choice : IsFreeChoice net) (commoner : MeetsCommoner net) 
   others_fewer : (D : ℕ → Bool) (t : ℕ) → t < net.transitions → D t ≡ false → count net.transitions (others (with_one D t)) < count net.transitions (others D)
   others_fewer D t below outside =
       fewer net.transitions (others (with_one D t)) (others D) t
-      (λ u _ out. elim (cases_bool (D u)) [
-        | inl member ↦ absurd (apart (with_one D t u) (or_right (u == t) (D u) member) (not_false (with_one D t u) out))
-        | inr none ↦ not_true (D u) none
+      (λ u _ out. elim (cases_Bool (D u)) [
+        | inl member ↦ absurd (both_ways (with_one D t u) (not-true (with_one D t u) out) (or_right (u == t) (D u) member))
+        | inr none ↦ not_from_false (D u) none
       ])
-      below (elim (cases_bool (others (with_one D t) t)) [
-        | inl out ↦ absurd (apart (with_one D t t) (or_left (t == t) (D t) (eq-eqb t t refl)) (not_false (with_one D t t) out))
+      below (elim (cases_Bool (others (with_one D t) t)) [
+        | inl out ↦ absurd (both_ways (with_one D t t) (not-true (with_one D t t) out) (or_left (t == t) (D t) (eq-eqb t t refl)))
         | inr none ↦ none
-      ]) (not_true (D t) outside)
+      ]) (not_from_false (D t) outside)
 
   -- firing a transition that gives to a stuck place leaves fewer stuck places
   fewer_stuck : (M M' : ℕ → ℕ) (D : ℕ → Bool) (ts : List ℕ) (t p : ℕ) → AreLost net M D → Reach net M ts (after net M' t) → p < net.places → IsTrue (stuck net M D p) → 0 < net.post p t → count net.places (stuck net (after net M' t) D) < count net.places (stuck net M D)
   fewer_stuck M M' D ts t p all reached below here gives =
       fewer net.places (stuck net (after net M' t) D) (stuck net M D) p (stuck_before M (after net M' t) D ts all reached) below
-      (elim (cases_bool (stuck net (after net M' t) D p)) [
+      (elim (cases_Bool (stuck net (after net M' t) D p)) [
         | inl still ↦ let empty = stuck_empty (after net M' t) D p still in absurd (omega arith)
         | inr none ↦ none
       ]) here
@@ -135,14 +122,14 @@ module _ (net : Net) (choice : IsFreeChoice net) (commoner : MeetsCommoner net) 
   inner n outer zero M D all few less = omega arith
   inner n outer (suc k) M D all few less =
       no_siphon M D all (
-      λ t below gives. elim (cases_bool (has_input_in net (stuck net M D) t)) [
+      λ t below gives. elim (cases_Bool (has_input_in net (stuck net M D) t)) [
         | inl takes ↦ takes
         | inr none ↦ absurd (
-            elim (cases_bool (D t)) [
+            elim (cases_Bool (D t)) [
               | inl member ↦
                   let input = lost_input net M t choice.ordinary below (all.lost t below member) in
-                  apart (has_input_in net (stuck net M D) t)
-                  (pair_at net.places (stuck net M D) (λ p. net.pre p t) input.0 input.1.within (stuck_at M D input.0 t input.1.empty below member input.1.input) input.1.input) none
+                  both_ways (has_input_in net (stuck net M D) t) none
+                  (pair_at net.places (stuck net M D) (λ p. net.pre p t) input.0 input.1.within (stuck_at M D input.0 t input.1.empty below member input.1.input) input.1.input)
               | inr outside ↦
                   let at = pair_from net.places (stuck net M D) (λ p. net.post p t) gives in
                   let lost : IsLost net M t = λ ts M' reached enabled.

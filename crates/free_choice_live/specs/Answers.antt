@@ -8,7 +8,7 @@ use Rattle.closed_sets.specs.Commoner.{MeetsCommoner}
 use Rattle.closed_sets.specs.MinimalSets.{IsMinimalSet}
 use Rattle.siphon_branch.specs.declared.fault.SetFault.{SetFault}
 use Rattle.siphon_branch.specs.declared.fault.SetFault.TheVariants as faults
-use Rattle.siphon_branch.specs.Met.{HasAtMostGrown, PassesLimit}
+use Rattle.siphon_branch.specs.Limits.{HasAtMostGrown, PassesLimit}
 use Rattle.net_class.specs.Classes.{IsFreeChoice}
 use Rattle.net_class.specs.Verdicts.{IsFirstWithoutTrap}
 use Rattle.free_choice_live.specs.declared.liveness.Liveness.{Liveness}

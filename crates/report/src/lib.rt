@@ -20,4 +20,4 @@ pub use net_texts::{check_text, class_text};
 pub use refusal::{Excess, Refusal, status};
 pub use semiflow_texts::{place_semiflows_text, transition_semiflows_text};
 pub use set_texts::{siphons_text, traps_text};
-pub use verdict_texts::commoner_text;
+pub use verdict_texts::{commoner_text, push_siphon};

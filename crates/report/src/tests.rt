@@ -1,6 +1,7 @@
 use super::*;
-use net_class::Class;
+use net_class::{Class, Verdict};
 use net_values::{Document, FlatNet, Items, NetTree, NoMemory, PlaceSet, Rows, Sets, Text, Vector};
+use pnml_source::MemorySink;
 use std::alloc::Global;
 use std::process::Abort;
 use std::test::Fail;
@@ -14,6 +15,7 @@ enum Told<'a> {
     Transitions(&'a [&'a [i128]]),
     Siphons(&'a [&'a [usize]]),
     Traps(&'a [&'a [usize]]),
+    Commoner(Option<&'a [usize]>),
 }
 
 /// A net with the places `p`, `q` and `é<`, the transitions `t` and `u`, and an arc of weight 7.
@@ -62,20 +64,30 @@ fn rows_of(rt: &impl Abort, alloc: Global, lists: &[&[i128]]) -> Result<Rows, No
     Ok(rows)
 }
 
+fn set_of(
+    rt: &impl Abort,
+    alloc: Global,
+    size: usize,
+    places: &[usize],
+) -> Result<PlaceSet, NoMemory> {
+    assert!(rt; size <= 8);
+    let mut set = PlaceSet::new(alloc, size)?;
+    for p in places {
+        assert!(rt; *p < set.size());
+        set.insert(*p);
+    }
+    Ok(set)
+}
+
 fn sets_of(
     rt: &impl Abort,
     alloc: Global,
     size: usize,
     lists: &[&[usize]],
 ) -> Result<Sets, NoMemory> {
-    assert!(rt; size <= 8);
     let mut sets = Sets::new(alloc);
     for list in lists {
-        let mut set = PlaceSet::new(alloc, size)?;
-        for p in *list {
-            assert!(rt; *p < set.size());
-            set.insert(*p);
-        }
+        let set = set_of(rt, alloc, size, *list)?;
         assert!(rt;
             sets.as_slice()
                 .iter()
@@ -122,48 +134,122 @@ fn text_of(rt: &impl Abort, alloc: Global, net: &FlatNet, told: Told) -> Result<
             assert!(rt; sets.as_slice().iter().all(|set| set.size() == net.places()));
             traps_text(alloc, net, &sets)
         }
+        Told::Commoner(None) => commoner_text(alloc, net, &Verdict::Yes),
+        Told::Commoner(Some(places)) => {
+            let siphon = set_of(rt, alloc, net.places(), places)?;
+            assert!(rt; siphon.size() == net.places());
+            commoner_text(alloc, net, &Verdict::No(siphon))
+        }
     }
 }
+
+const TEXTS: [(Told<'static>, &str); 10] = [
+    (Told::Check, "places 3 transitions 2 arcs 1\n"),
+    (
+        Told::Class(true, false, true, false),
+        "ordinary yes\nstate-machine no\nmarked-graph yes\nfree-choice no\n",
+    ),
+    (
+        Told::Class(false, true, false, true),
+        "ordinary no\nstate-machine yes\nmarked-graph no\nfree-choice yes\n",
+    ),
+    (Told::Places(&[]), "semiflows 0\n"),
+    (
+        Told::Places(&[
+            &[0, 10, 170141183460469231731687303715884105727],
+            &[1, 0, 2],
+            &[0, 0, 0],
+        ]),
+        "10*q 170141183460469231731687303715884105727*é<\n1*p 2*é<\n\nsemiflows 3\n",
+    ),
+    (
+        Told::Transitions(&[&[1, 0], &[3, 20]]),
+        "1*t\n3*t 20*u\nsemiflows 2\n",
+    ),
+    (
+        Told::Siphons(&[&[2], &[2, 0], &[0, 1, 2]]),
+        "é<\np é<\np q é<\nsiphons 3\n",
+    ),
+    (Told::Traps(&[&[1], &[]]), "q\n\ntraps 2\n"),
+    (
+        Told::Commoner(Some(&[2, 0])),
+        "commoner no\nsiphon p é<\ndeadlock-free unknown\n",
+    ),
+    (
+        Told::Commoner(None),
+        "commoner yes\ndeadlock-free unknown\n",
+    ),
+];
 
 #[test]
 fn texts_of_a_small_net(rt: HostRuntime) -> Result<(), Fail> {
     let alloc = rt.alloc();
     let net = small_net(&rt, alloc)?;
-    for (told, wanted) in [
-        (Told::Check, "places 3 transitions 2 arcs 1\n"),
-        (
-            Told::Class(true, false, true, false),
-            "ordinary yes\nstate-machine no\nmarked-graph yes\nfree-choice no\n",
-        ),
-        (
-            Told::Class(false, true, false, true),
-            "ordinary no\nstate-machine yes\nmarked-graph no\nfree-choice yes\n",
-        ),
-        (Told::Places([].as_slice()), "semiflows 0\n"),
-        (
-            Told::Places([
-                [0, 10, 170141183460469231731687303715884105727].as_slice(),
-                [1, 0, 2].as_slice(),
-                [0, 0, 0].as_slice(),
-            ]
-            .as_slice()),
-            "10*q 170141183460469231731687303715884105727*é<\n1*p 2*é<\n\nsemiflows 3\n",
-        ),
-        (
-            Told::Transitions([[1, 0].as_slice(), [3, 20].as_slice()].as_slice()),
-            "1*t\n3*t 20*u\nsemiflows 2\n",
-        ),
-        (
-            Told::Siphons([[2].as_slice(), [2, 0].as_slice(), [0, 1, 2].as_slice()].as_slice()),
-            "é<\np é<\np q é<\nsiphons 3\n",
-        ),
-        (
-            Told::Traps([[1].as_slice(), [].as_slice()].as_slice()),
-            "q\n\ntraps 2\n",
-        ),
-    ] {
-        let text = text_of(&rt, alloc, &net, told)?;
-        assert_eq!(rt; text.as_str(), wanted);
+    for (told, wanted) in &TEXTS {
+        let text = text_of(&rt, alloc, &net, *told)?;
+        assert_eq!(rt; text.as_str(), *wanted);
+    }
+    Ok(())
+}
+
+/// A refusal as a row tells it, with its status and its line.
+#[derive(Clone, Copy)]
+enum Refused {
+    Usage,
+    WideSum,
+    WideRow,
+    WideBound(usize),
+    RowBudget,
+    SetLimit,
+    TooLong,
+}
+
+const LINES: [(Refused, u8, &str); 8] = [
+    (
+        Refused::Usage,
+        2,
+        "usage: pnmlstruct TASK [--rows N] [--sets N], or pnmlstruct sample N\n",
+    ),
+    (Refused::WideSum, 4, "wide sum at é<\n"),
+    (Refused::WideRow, 4, "wide row at é<\n"),
+    (Refused::WideBound(0), 4, "wide bound in semiflow 1\n"),
+    (
+        Refused::WideBound(usize::MAX),
+        4,
+        "wide bound in semiflow 18446744073709551616\n",
+    ),
+    (
+        Refused::RowBudget,
+        5,
+        "row budget 5 passed at é<: 12 candidates\n",
+    ),
+    (Refused::SetLimit, 6, "set limit 7 passed\n"),
+    (Refused::TooLong, 7, "input too long\n"),
+];
+
+fn refusal(alloc: Global, refused: Refused) -> Result<Refusal, NoMemory> {
+    let mut id = Text::new(alloc);
+    id.push("é<")?;
+    Ok(match refused {
+        Refused::Usage => Refusal::Usage,
+        Refused::WideSum => Refusal::Excess(Excess::WideSum(id)),
+        Refused::WideRow => Refusal::Excess(Excess::WideRow(id)),
+        Refused::WideBound(row) => Refusal::Excess(Excess::WideBound(row)),
+        Refused::RowBudget => Refusal::Excess(Excess::RowBudget(5, id, 12)),
+        Refused::SetLimit => Refusal::Excess(Excess::SetLimit(7)),
+        Refused::TooLong => Refusal::TooLong,
+    })
+}
+
+#[test]
+fn refusals_are_told(rt: HostRuntime) -> Result<(), Fail> {
+    let alloc = rt.alloc();
+    for (refused, wanted, line) in &LINES {
+        let refusal = refusal(alloc, *refused)?;
+        let mut sink = MemorySink::new(alloc, 100, Vec::new(alloc), Vec::new(alloc))?;
+        assert_eq!(rt; tell(&mut sink, &refusal), Ok(()));
+        assert_eq!(rt; sink.bytes(), line.as_bytes());
+        assert_eq!(rt; status(&refusal), *wanted);
     }
     Ok(())
 }

@@ -1,12 +1,12 @@
-ghost use Rattle.std.specs.Prelude.{◌≡◌, ◌↔◌, ◌++◌, IsTrue, IfOk, OnOk};
+ghost use Rattle.std.specs.Prelude.{◌≡◌, ◌↔◌, ◌++◌, IsTrue, IfOk, OnOk, length};
 ghost use Rattle.net_values.specs.FlatNets.{net_of};
 ghost use Rattle.net_values.specs.Nodes.{place_id};
-ghost use Rattle.report.specs.VerdictTexts.{IsCommonerText, IsVerdictOn, ProvesDeadlockFree, verdict_lines};
+ghost use Rattle.report.specs.VerdictTexts.{IsCommonerText, IsVerdictOn, ProvesDeadlockFree, siphon_line, verdict_lines};
 
 use crate::lines::push_answer;
 use crate::set_texts::push_members;
 use net_class::{Verdict, class};
-use net_values::{FlatNet, NoMemory, Text};
+use net_values::{FlatNet, NoMemory, PlaceSet, Text};
 use std::alloc::Global;
 
 /// The text of `commoner`: whether Commoner's condition holds, for a no the ids of the places of the siphon,
@@ -27,7 +27,6 @@ pub fn commoner_text(alloc: Global, net: &FlatNet, verdict: &Verdict) -> Result<
 }
 
 /// Appends the lines of a verdict.
-#[tactic(auto, unfolding(crate::specs::VerdictTexts::siphon_line))]
 fn push_verdict(text: &mut Text, net: &FlatNet, verdict: &Verdict) -> Result<(), NoMemory>
     requires { IsVerdictOn (net_of net.now) verdict.now }
     ensures { OnOk result (text.new ≡ text.old ++ verdict_lines (place_id net.now) verdict.now) }
@@ -36,11 +35,20 @@ fn push_verdict(text: &mut Text, net: &FlatNet, verdict: &Verdict) -> Result<(),
         Verdict::Yes => push_answer(text, "commoner", true),
         Verdict::No(siphon) => {
             push_answer(text, "commoner", false)?;
-            text.push("siphon")?;
-            push_members(text, net, siphon, false)?;
-            text.push("\n")
+            push_siphon(text, net, siphon)
         }
     }
+}
+
+/// Appends the line of a siphon: `siphon` and the ids of its places in order, each after a space.
+#[tactic(auto, unfolding(crate::specs::VerdictTexts::siphon_line))]
+pub fn push_siphon(text: &mut Text, net: &FlatNet, siphon: &PlaceSet) -> Result<(), NoMemory>
+    requires { length siphon.now ≡ (net_of net.now).places }
+    ensures { OnOk result (text.new ≡ text.old ++ siphon_line (place_id net.now) siphon.now) }
+{
+    text.push("siphon")?;
+    push_members(text, net, siphon, false)?;
+    text.push("\n")
 }
 
 /// Whether a verdict proves that no reachable marking is dead.
