@@ -15,7 +15,8 @@ use Rattle.page_flatten.specs.Flat.{Flat}
 use Rattle.semiflow_elim.specs.declared.fault.ElimFault.TheVariants as faults
 use Rattle.siphon_branch.specs.Limits.{CarriesMore, HasAtMostGrown, IsGrownSet}
 use Rattle.incidence.specs.Matrix.{incidence_of}
-use Rattle.struct_core.specs.Verdicts.{BoundOutcome, all_bounds, wide_bound, no_semiflows, CommonerOutcome, verdict, no_siphons}
+use Rattle.struct_core.specs.Verdicts.{BoundOutcome, all_bounds, wide_bound, no_semiflows, CommonerOutcome, verdict, no_siphons, LiveOutcome, liveness, too_many_siphons}
+use Rattle.free_choice_live.specs.Answers.{IsAsked}
 use Rattle.std.specs.Prelude.{Bool}
 use Rattle.struct_core.specs.declared.order.Task.{Task}
 use Rattle.struct_core.specs.declared.order.Task.TheVariants as tasks
@@ -80,6 +81,10 @@ verdict_completes net ids limit _ _ few (verdict one text also is spelled) = ref
 verdict_completes net ids limit _ _ few (no_siphons status line passed) =
     absurd (not_passed (IsGrownSet net) limit status line (λ carried. (few_not_many net limit carried).siphons few) passed)
 
+live_completes : (net : Net) (ids : ℕ → List ℕ) (limit status : ℕ) (text : List ℕ) → (IsAsked net → HasAtMostGrown net limit) → LiveOutcome net ids limit status text → status ≡ 0
+live_completes net ids limit _ _ few (liveness one is) = refl
+live_completes net ids limit _ _ few (too_many_siphons carried asked many) = absurd ((few_not_many net limit carried).siphons (few asked) many)
+
 task_completes : (task : Task) (budgets : Budgets) (document : Document) (net : NetLists) (status : ℕ) (text : List ℕ)
     → IsNarrow task budgets net → IsFew task budgets net → TaskOutcome task budgets document net status text → status ≡ 0
 task_completes tasks.Check budgets document net status text narrow few outcome = outcome.0
@@ -93,6 +98,7 @@ task_completes tasks.Traps budgets document net status text narrow few outcome =
     sets_complete _ _ _ _ budgets.sets status text (λ carried. (few_not_many (net_of net) budgets.sets carried).traps few) outcome
 task_completes tasks.Bounds budgets document net status text narrow few outcome = bounds_complete _ _ _ _ status text narrow.0 narrow.1 outcome
 task_completes tasks.Commoner budgets document net status text narrow few outcome = verdict_completes _ _ _ status text few outcome
+task_completes tasks.Live budgets document net status text narrow few outcome = live_completes _ _ _ status text few outcome
 
 -- ---- the run
 

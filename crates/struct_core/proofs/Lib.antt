@@ -12,8 +12,10 @@ pub mod SomeClass
 pub mod Truths
 pub mod OneListing
 pub mod OneVerdict
+pub mod OneLiveness
 pub mod OneOutcome
 pub mod SomeBounds
 pub mod SomeVerdict
+pub mod SomeLiveness
 pub mod SomeOutcome
 pub mod VerdictLaws

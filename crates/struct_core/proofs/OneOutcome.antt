@@ -26,6 +26,7 @@ use Rattle.struct_core.proofs.Truths.{same_answer}
 use Rattle.struct_core.proofs.TaskAnswers.{task_answers}
 use Rattle.struct_core.proofs.OneListing.{one_semiflow_outcome, one_set_outcome}
 use Rattle.struct_core.proofs.OneVerdict.{one_bound_outcome, one_commoner_outcome}
+use Rattle.struct_core.proofs.OneLiveness.{one_live_outcome}
 use Rattle.siphon_branch.proofs.Limits.{few_not_many}
 
 -- ---- a class
@@ -63,6 +64,7 @@ one_task_outcome tasks.Traps budgets document net status other text line one ano
     one_set_outcome _ _ _ _ budgets.sets status other text line (λ carried. (few_not_many (net_of net) budgets.sets carried).traps) one another
 one_task_outcome tasks.Bounds budgets document net status other text line one another = one_bound_outcome _ _ _ _ status other text line one another
 one_task_outcome tasks.Commoner budgets document net status other text line one another = one_commoner_outcome _ _ _ status other text line one another
+one_task_outcome tasks.Live budgets document net status other text line one another = one_live_outcome _ _ _ status other text line one another
 
 -- ---- an order
 

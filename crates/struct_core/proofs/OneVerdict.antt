@@ -116,7 +116,7 @@ one_bound_outcome net ids columns budget _ _ _ _ (no_semiflows status line fails
 
 -- ---- Commoner's verdict
 
-one_unsafe : (net : Net) (list : List (List Bool)) (one other : List Bool) → IsFirstWithoutTrap net list one → IsFirstWithoutTrap net list other → one ≡ other
+pub one_unsafe : (net : Net) (list : List (List Bool)) (one other : List Bool) → IsFirstWithoutTrap net list one → IsFirstWithoutTrap net list other → one ≡ other
 one_unsafe net list one other is also = elim (cases_lt is.index also.index) [
   | inl before ↦ absurd (is.lacks (subst (λ (set : List Bool). HasMarkedTrap net (has set)) is.listed (also.earlier is.index before)))
   | inr from ↦ elim (cases_lt also.index is.index) [

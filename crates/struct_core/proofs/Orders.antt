@@ -4,7 +4,7 @@ use Rattle.std.specs.Prelude.{codes, if◌then◌else◌, nat_eq}
 use Rattle.std.specs.List.{starts_with}
 use Rattle.std.proofs.lemmas.Option.{same_Some}
 use Rattle.struct_core.specs.declared.order.Task.{Task}
-use Rattle.struct_core.specs.declared.order.Task.TheVariants.{Check, Canon, Class, Places, Transitions, Siphons, Traps, Bounds, Commoner}
+use Rattle.struct_core.specs.declared.order.Task.TheVariants.{Check, Canon, Class, Places, Transitions, Siphons, Traps, Bounds, Commoner, Live}
 use Rattle.struct_core.specs.declared.order.Order.{Order}
 use Rattle.struct_core.specs.declared.order.Order.TheVariants.{Run}
 use Rattle.struct_core.specs.Words.{Means, task_word, default_budgets}
@@ -21,6 +21,7 @@ task_of word =
     else if starts_with nat_eq word (codes "traps") then Some Traps
     else if starts_with nat_eq word (codes "bounds") then Some Bounds
     else if starts_with nat_eq word (codes "commoner") then Some Commoner
+    else if starts_with nat_eq word (codes "live") then Some Live
     else None
 
 word_read : (task : Task) → task_of (task_word task) ≡ Some task
@@ -33,6 +34,7 @@ word_read Siphons = refl
 word_read Traps = refl
 word_read Bounds = refl
 word_read Commoner = refl
+word_read Live = refl
 
 one_task : (one other : Task) → task_word one ≡ task_word other → one ≡ other
 one_task one other same = same_Some one other (sym (word_read one) ∙ ap task_of same ∙ word_read other)

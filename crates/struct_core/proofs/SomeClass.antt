@@ -117,7 +117,7 @@ module _ (net : Net) where
   fair_or_not : (t : ℕ) → Decided ((u : ℕ) → u < net.transitions → ShareAnInput net t u → HaveSameInputs net t u)
   fair_or_not t = all_below (λ u. ShareAnInput net t u → HaveSameInputs net t u) (λ u. implied _ _ (shares_or_not t u) (same_inputs_or_not t u)) net.transitions
 
-  free_choice_or_not : Decided (IsFreeChoice net)
+  pub free_choice_or_not : Decided (IsFreeChoice net)
   free_choice_or_not = elim (both _ _ ordinary_or_not (all_below (λ t. (u : ℕ) → u < net.transitions → ShareAnInput net t u → HaveSameInputs net t u) fair_or_not net.transitions)) [
     | inl h ↦ inl record { ordinary = h.0; shared = λ t u first second. h.1 t first u second }
     | inr lacks ↦ inr (λ h. lacks (h.ordinary, λ t first u second. h.shared t u first second))

@@ -39,6 +39,7 @@ use Rattle.bounds.specs.Listed.{AreNarrowRows, IsFirstWideRow}
 use Rattle.bounds.proofs.Sums.{Generate}
 use Rattle.struct_core.proofs.SomeBounds.{narrow_or_first_wide, all_kept, all_sized, all_least}
 use Rattle.struct_core.proofs.SomeVerdict.{verdict_of}
+use Rattle.struct_core.proofs.SomeLiveness.{some_liveness}
 use Rattle.struct_core.proofs.OneOutcome.{one_outcome}
 use Rattle.struct_core.proofs.SomeClass.{both, positive, ordinary_or_not, truth_of, tells_truth, some_class}
 use Rattle.page_flatten.proofs.Decisions.{Decided}
@@ -115,6 +116,7 @@ some_task_outcome tasks.Traps budgets document net decided =
 some_task_outcome tasks.Bounds budgets document net decided = some_bounds _ _ _ _ decided
 some_task_outcome tasks.Commoner budgets document net decided =
     let is = verdict_of (net_of net) in some_verdict _ _ _ (few_or_many (net_of net) budgets.sets).siphons is.0 is.1
+some_task_outcome tasks.Live budgets document net decided = some_liveness _ _ _ (few_or_many (net_of net) budgets.sets).siphons (verdict_of (net_of net))
 
 -- ---- of an input
 

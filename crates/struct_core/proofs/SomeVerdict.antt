@@ -22,6 +22,7 @@ use Rattle.net_class.specs.Verdicts.{IsFirstWithoutTrap}
 use Rattle.siphon_branch.proofs.Limits.{lists_there}
 use Rattle.page_flatten.proofs.Decisions.{Decided}
 use Rattle.struct_core.specs.Verdicts.{IsVerdict}
+use Rattle.struct_core.proofs.Judging.{is_listed}
 
 module _ (net : Net) where
   -- a marked set makes each set around it marked
@@ -72,7 +73,7 @@ module _ (net : Net) where
 
     not_met : (siphon : List Bool) → IsFirstWithoutTrap net list siphon → MeetsCommoner net → ⊥
     not_met siphon first meets =
-        let minimal = (is.members siphon).0 (first.index, first.below, get_or_default list first.index siphon [] first.below ∙ first.listed) in
+        let minimal = (is.members siphon).0 (is_listed net list siphon first) in
         first.lacks (meets (has siphon) minimal.minimal.siphon minimal.minimal.nonempty)
 
     by_list : (one : Verdict) × IsVerdict net one

@@ -21,7 +21,7 @@ use Rattle.struct_core.specs.declared.order.Task.TheVariants as tasks
 use Rattle.struct_core.specs.declared.order.Budgets.{Budgets}
 use Rattle.struct_core.specs.declared.order.Order.TheVariants.{Run}
 use Rattle.struct_core.specs.Enumerations.{SemiflowOutcome, SetOutcome}
-use Rattle.struct_core.specs.Verdicts.{BoundOutcome, CommonerOutcome}
+use Rattle.struct_core.specs.Verdicts.{BoundOutcome, CommonerOutcome, LiveOutcome}
 use Rattle.struct_core.specs.Outcome.{HasClass, TaskOutcome, Profile, Outcome, no_document, broken, answer}
 use Rattle.struct_core.proofs.SameNets.{same_net, same_place_ids, same_transition_ids}
 
@@ -61,6 +61,8 @@ outcome_as tasks.Bounds budgets document one other status text same is =
     subst (λ (n : Named). BoundOutcome n.0 n.1 n.2 budgets.rows status text) (same_named one other same) is
 outcome_as tasks.Commoner budgets document one other status text same is =
     subst (λ (n : Named). CommonerOutcome n.0 n.1 budgets.sets status text) (same_named one other same) is
+outcome_as tasks.Live budgets document one other status text same is =
+    subst (λ (n : Named). LiveOutcome n.0 n.1 budgets.sets status text) (same_named one other same) is
 
 -- ---- an order
 

@@ -19,8 +19,14 @@ use Rattle.net_class.specs.declared.verdict.Verdict.TheVariants.{Yes, No}
 use Rattle.report.specs.Lines.{answer_line}
 use Rattle.report.specs.Texts.{bounds_text}
 use Rattle.report.specs.VerdictTexts.{IsCommonerText, verdict_lines, deadlock_line}
-use Rattle.struct_core.specs.Verdicts.{BoundOutcome, all_bounds, wide_bound, no_semiflows, IsVerdict, CommonerOutcome, verdict, no_siphons}
-use Rattle.struct_core.specs.Laws.{PrintBoundsThatHold, PrintLeastBounds, ProvedNetsNeverDie}
+use Rattle.struct_core.specs.Verdicts.{BoundOutcome, all_bounds, wide_bound, no_semiflows, IsVerdict, CommonerOutcome, verdict, no_siphons, LiveOutcome, liveness, too_many_siphons}
+use Rattle.free_choice_live.specs.declared.liveness.Liveness.{Liveness}
+use Rattle.free_choice_live.specs.declared.liveness.Liveness.TheVariants.{Proved, NotFreeChoice, NoTransition, Siphon}
+use Rattle.free_choice_live.specs.Answers.{Tells}
+use Rattle.free_choice_live.specs.Texts.{live_text}
+use Rattle.free_choice_live.specs.Live.{IsLive}
+use Rattle.free_choice_live.proofs.LostTransitions.{commoner_is_live}
+use Rattle.struct_core.specs.Laws.{PrintBoundsThatHold, PrintLeastBounds, ProvedNetsNeverDie, ProvedNetsLive}
 use Rattle.struct_core.proofs.Outcomes.{step_goes_on, limit_goes_on}
 
 -- ---- bounds
@@ -77,3 +83,25 @@ never_dies net ids limit _ _ (no_siphons status line passed) zero_is same = absu
 
 pub proved_never_die : ProvedNetsNeverDie
 proved_never_die budgets document net outcome = never_dies (net_of net) (place_id net) budgets.sets 0 proved_text outcome refl refl
+
+-- ---- liveness
+
+abbrev live_proved : List ℕ
+live_proved = codes "live proved\n"
+
+-- the letter after `live ` tells what isn't proved
+not_unknown : (rest : List ℕ) → live_proved ≡ codes "live unknown\n" ++ rest → ⊥
+not_unknown rest same = (let e : 112 ≡ 117 = ap (λ (t : List ℕ). slice_index t 5) same in omega (arith, e))
+
+is_live : (net : Net) (ids : ℕ → List ℕ) (limit : ℕ) (one : Liveness) → Tells net limit one → live_text ids one ≡ live_proved → IsLive net
+is_live net ids limit Proved is same = commoner_is_live net is.0.free_choice is.2
+is_live net ids limit NotFreeChoice is same = absurd (not_unknown _ (sym same))
+is_live net ids limit NoTransition is same = absurd (not_unknown _ (sym same))
+is_live net ids limit (Siphon siphon) is same = absurd (not_unknown _ (sym same))
+
+lives : (net : Net) (ids : ℕ → List ℕ) (limit status : ℕ) (text : List ℕ) → LiveOutcome net ids limit status text → status ≡ 0 → text ≡ live_proved → IsLive net
+lives net ids limit _ _ (liveness one is) zero_is same = is_live net ids limit one is same
+lives net ids limit _ _ (too_many_siphons carried asked many) zero_is same = absurd (omega (arith, zero_is))
+
+pub proved_live : ProvedNetsLive
+proved_live budgets document net outcome = lives (net_of net) (place_id net) budgets.sets 0 live_proved outcome refl refl

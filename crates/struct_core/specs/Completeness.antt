@@ -22,6 +22,7 @@ use Rattle.struct_core.specs.declared.order.Task.TheVariants as tasks
 use Rattle.struct_core.specs.declared.order.Budgets.{Budgets}
 use Rattle.struct_core.specs.declared.order.Order.{Order}
 use Rattle.struct_core.specs.declared.order.Order.TheVariants.{Run}
+use Rattle.free_choice_live.specs.Answers.{IsAsked}
 use Rattle.struct_core.specs.Outcome.{Outcome, Profile}
 use Rattle.struct_core.specs.Run.{Device, HasRun}
 use Rattle.struct_core.specs.Words.{Means}
@@ -57,6 +58,7 @@ abbrev pub IsFew : Task → Budgets → NetLists → Type 0
 IsFew tasks.Siphons budgets net = HasAtMostGrown (net_of net) budgets.sets
 IsFew tasks.Traps budgets net = HasAtMostGrownTraps (net_of net) budgets.sets
 IsFew tasks.Commoner budgets net = HasAtMostGrown (net_of net) budgets.sets
+IsFew tasks.Live budgets net = IsAsked (net_of net) → HasAtMostGrown (net_of net) budgets.sets
 IsFew _ budgets net = Unit
 
 -- the status is 0, and the text of the order for the input was written

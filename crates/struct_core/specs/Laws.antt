@@ -13,6 +13,7 @@ use Rattle.net_values.specs.Nodes.{place_id, transition_id}
 use Rattle.bounds.specs.declared.place_bound.PlaceBound.{PlaceBound}
 use Rattle.bounds.specs.Listed.{AreLeastBounds, BoundsHold}
 use Rattle.closed_sets.specs.Commoner.{IsDeadlockFree}
+use Rattle.free_choice_live.specs.Live.{IsLive}
 use Rattle.report.specs.Texts.{semiflows_text, sets_text, bounds_text}
 use Rattle.struct_core.specs.declared.order.Task.TheVariants as tasks
 use Rattle.struct_core.specs.declared.order.Budgets.{Budgets}
@@ -65,6 +66,12 @@ abbrev pub ProvedNetsNeverDie : Type 0
 ProvedNetsNeverDie =
     (budgets : Budgets) (document : Document) (net : NetLists)
     → TaskOutcome tasks.Commoner budgets document net 0 (codes "commoner yes\ndeadlock-free proved\n") → IsDeadlockFree (net_of net)
+
+-- where `live` prints that the net is proved to be live, it is
+abbrev pub ProvedNetsLive : Type 0
+ProvedNetsLive =
+    (budgets : Budgets) (document : Document) (net : NetLists) → TaskOutcome tasks.Live budgets document net 0 (codes "live proved\n")
+    → IsLive (net_of net)
 
 -- `canon` of the canonical text of a valued document that breaks no rule writes that text, and does nothing else
 abbrev pub CanonStays : Type 0

@@ -24,7 +24,7 @@ use Rattle.struct_core.specs.declared.order.Order.{Order}
 use Rattle.struct_core.specs.declared.order.Order.TheVariants.{Run}
 use Rattle.report.specs.FaultLines.{document_line, rule_line}
 use Rattle.struct_core.specs.Enumerations.{SemiflowOutcome, SetOutcome}
-use Rattle.struct_core.specs.Verdicts.{BoundOutcome, CommonerOutcome}
+use Rattle.struct_core.specs.Verdicts.{BoundOutcome, CommonerOutcome, LiveOutcome}
 
 -- the classes to which a net belongs (Murata 1989)
 pub record HasClass (net : Net) (class : Class) : Type 0 where
@@ -51,6 +51,7 @@ TaskOutcome tasks.Traps budgets document net status text =
 TaskOutcome tasks.Bounds budgets document net status text =
     BoundOutcome (net_of net) (place_id net) (transition_id net) budgets.rows status text
 TaskOutcome tasks.Commoner budgets document net status text = CommonerOutcome (net_of net) (place_id net) budgets.sets status text
+TaskOutcome tasks.Live budgets document net status text = LiveOutcome (net_of net) (place_id net) budgets.sets status text
 
 -- the bytes spell the document, and it breaks no rule
 pub record Profile (bytes : List ℕ) (document : Document) : Type 0 where

@@ -1,4 +1,5 @@
--- What `bounds` and `commoner` tell of a net: how many tokens a place can have, and whether they can get stuck.
+-- What `bounds`, `commoner` and `live` tell of a net: how many tokens a place can have, whether they can get
+-- stuck, and whether each transition can always fire again.
 use Rattle.std.specs.Prelude.{◌≡◌, ◌↔◌, ℕ, List, Option, Bool, length}
 use Rattle.std.specs.Cmp.Lexicographic.{slice_cmp}
 use Rattle.std.specs.Ordering.{bool_cmp}
@@ -12,8 +13,11 @@ use Rattle.incidence.specs.Matrix.{incidence_of}
 use Rattle.net_class.specs.declared.verdict.Verdict.{Verdict}
 use Rattle.net_class.specs.declared.verdict.Verdict.TheVariants.{Yes}
 use Rattle.net_class.specs.Verdicts.{NamesFirst}
-use Rattle.siphon_branch.specs.Limits.{HasAtMostGrown, IsGrownSet}
-use Rattle.report.specs.FaultLines.{wide_bound_line}
+use Rattle.siphon_branch.specs.Limits.{HasAtMostGrown, PassesLimit, IsGrownSet}
+use Rattle.free_choice_live.specs.declared.liveness.Liveness.{Liveness}
+use Rattle.free_choice_live.specs.Answers.{IsAsked, Tells}
+use Rattle.free_choice_live.specs.Texts.{live_text}
+use Rattle.report.specs.FaultLines.{wide_bound_line, limit_line}
 use Rattle.report.specs.Texts.{bounds_text}
 use Rattle.report.specs.VerdictTexts.{IsCommonerText}
 use Rattle.struct_core.specs.Enumerations.{AreListed, FailedStep, PassedLimit}
@@ -44,3 +48,8 @@ pub data CommonerOutcome (net : Net) (ids : ℕ → List ℕ) (limit : ℕ) : �
   verdict : (verdict : Verdict) (text : List ℕ) → HasAtMostGrown net limit → IsVerdict net verdict → IsCommonerText net ids verdict text
       → CommonerOutcome net ids limit 0 text
   no_siphons : (status : ℕ) (line : List ℕ) → PassedLimit (IsGrownSet net) limit status line → CommonerOutcome net ids limit status line
+
+-- for the liveness of a free-choice net; the siphons are asked for only where it has a transition
+pub data LiveOutcome (net : Net) (ids : ℕ → List ℕ) (limit : ℕ) : ℕ → List ℕ → Type 0 where
+  liveness : (liveness : Liveness) → Tells net limit liveness → LiveOutcome net ids limit 0 (live_text ids liveness)
+  too_many_siphons : (carried : List (List Bool)) → IsAsked net → PassesLimit net limit carried → LiveOutcome net ids limit 6 (limit_line limit)

@@ -7,7 +7,7 @@ use crate::order::{Budgets, Order, Task};
 use crate::place_bounds::bound_report;
 use crate::semiflows::semiflow_report;
 use crate::siphons::{siphon_report, trap_report};
-use crate::verdicts::commoner_report;
+use crate::verdicts::{commoner_report, live_report};
 use net_class::class;
 use net_values::{Document, FlatNet, NodeKind, Text};
 use page_flatten::flatten;
@@ -63,5 +63,6 @@ fn text_of(
         Task::Traps => trap_report(alloc, net, budgets.sets),
         Task::Bounds => bound_report(alloc, net, budgets.rows),
         Task::Commoner => commoner_report(alloc, net, budgets.sets),
+        Task::Live => live_report(alloc, net, budgets.sets),
     }
 }

@@ -1,6 +1,6 @@
 ghost use Rattle.struct_core.specs.Completeness.{QuietRunsComplete};
 ghost use Rattle.struct_core.specs.Determined.{HasOneOutcome, HasSomeOutcome};
-ghost use Rattle.struct_core.specs.Laws.{PrintSemiflows, PrintClosedSets, PrintBoundsThatHold, PrintLeastBounds, ProvedNetsNeverDie, CanonStays};
+ghost use Rattle.struct_core.specs.Laws.{PrintSemiflows, PrintClosedSets, PrintBoundsThatHold, PrintLeastBounds, ProvedNetsNeverDie, ProvedNetsLive, CanonStays};
 
 /// Every vector that `places` and `transitions` print is a semiflow (Colom and Silva 1991).
 pub fn printed_vectors_are_semiflows()
@@ -26,6 +26,12 @@ pub fn printed_bounds_are_least()
 /// Where `commoner` prints `deadlock-free proved`, no reachable marking is dead (Hack 1972, Murata 1989).
 pub fn deadlock_free_is_proved()
     ensures { ProvedNetsNeverDie }
+{}
+
+/// Where `live` prints `live proved`, each transition can be fired again after some further firings, whatever
+/// marking has been reached (Hack 1972, Murata 1989).
+pub fn proved_nets_are_live()
+    ensures { ProvedNetsLive }
 {}
 
 /// `canon` of a canonical text writes that text and does nothing else, where the document breaks no rule.

@@ -14,7 +14,7 @@ mod words;
 pub use laws::{
     canonical_text_stays, deadlock_free_is_proved, one_outcome, printed_bounds_are_least,
     printed_bounds_hold, printed_sets_are_closed, printed_vectors_are_semiflows,
-    quiet_runs_complete, some_outcome,
+    proved_nets_are_live, quiet_runs_complete, some_outcome,
 };
 pub use order::{Budgets, Order, Task};
 pub use running::run;

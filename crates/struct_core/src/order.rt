@@ -19,6 +19,8 @@ pub enum Task {
     Bounds,
     /// Whether every siphon contains a marked trap.
     Commoner,
+    /// Whether a free-choice net is proved to be live.
+    Live,
 }
 
 /// How much the enumerations may take.

@@ -27,6 +27,8 @@ const BOUNDS: &[u8] = b"bounds";
 
 const COMMONER: &[u8] = b"commoner";
 
+const LIVE: &[u8] = b"live";
+
 const DEFAULT_BUDGETS: Budgets = Budgets {
     rows: 20_000,
     sets: 100_000,
@@ -87,6 +89,8 @@ fn verdict_of(word: &[u8]) -> Option<Task>
         Some(Task::Bounds)
     } else if word == COMMONER {
         Some(Task::Commoner)
+    } else if word == LIVE {
+        Some(Task::Live)
     } else {
         None
     }
