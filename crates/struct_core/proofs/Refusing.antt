@@ -48,7 +48,7 @@ rules_broken task budgets bytes document (rules.ArcEnds id) spelled is =
 pub task_answered : (task : Task) (budgets : Budgets) (bytes : List ℕ) (document : Read) (net : NetLists) (result : Result (List ℕ) Refusal)
     → DocBytes document bytes → BreaksNoRule document × Flat document net → IfOk result (TaskOutcome task budgets document net 0)
     → IfOk result (Outcome (Run task budgets) bytes 0)
-task_answered task budgets bytes document net (Ok text) spelled flat is = answer task budgets bytes document net 0 text spelled flat.0 flat.1 is
+task_answered task budgets bytes document net (Ok text) spelled flat is = answer task budgets bytes document net 0 text (record { spelled = spelled; rules = flat.0 }) flat.1 is
 task_answered task budgets bytes document net (Err refusal) spelled flat is = tt
 
 -- and so is a refusal of the task
@@ -58,4 +58,4 @@ pub task_failed : (task : Task) (budgets : Budgets) (bytes : List ℕ) (document
 task_failed task budgets bytes document net (Ok text) spelled flat is = tt
 task_failed task budgets bytes document net (Err refusal) spelled flat (inl memory) = inl memory
 task_failed task budgets bytes document net (Err refusal) spelled flat (inr told) =
-    inr record { low = told.low; high = told.high; outcome = answer task budgets bytes document net _ _ spelled flat.0 flat.1 told.outcome }
+    inr record { low = told.low; high = told.high; outcome = answer task budgets bytes document net _ _ (record { spelled = spelled; rules = flat.0 }) flat.1 told.outcome }

@@ -1,5 +1,5 @@
 -- What the outcomes of runs tell.
-use Rattle.std.specs.Prelude.{◌≡◌, ℕ, List, Bool, All, length, slice_index, codes}
+use Rattle.std.specs.Prelude.{◌≡◌, ℕ, List, Bool, Option, All, length, slice_index, codes}
 use Rattle.net_values.specs.declared.document.Document.{Document}
 use Rattle.net_values.specs.FlatNets.{NetLists, net_of}
 use Rattle.net_values.specs.PlaceSets.{has}
@@ -10,7 +10,11 @@ use Rattle.pnml_grammar.specs.Canon.{canon}
 use Rattle.pnml_grammar.specs.Valued.{Valued}
 use Rattle.page_flatten.specs.Rules.{BreaksNoRule}
 use Rattle.net_values.specs.Nodes.{place_id, transition_id}
-use Rattle.report.specs.Texts.{semiflows_text, sets_text}
+use Rattle.bounds.specs.declared.place_bound.PlaceBound.{PlaceBound}
+use Rattle.bounds.specs.Listed.{AreLeastBounds, BoundsHold}
+use Rattle.closed_sets.specs.Commoner.{IsDeadlockFree}
+use Rattle.free_choice_live.specs.Live.{IsLive}
+use Rattle.report.specs.Texts.{semiflows_text, sets_text, bounds_text}
 use Rattle.struct_core.specs.declared.order.Task.TheVariants as tasks
 use Rattle.struct_core.specs.declared.order.Budgets.{Budgets}
 use Rattle.struct_core.specs.declared.order.Order.TheVariants.{Run}
@@ -45,8 +49,33 @@ PrintClosedSets =
     × (TaskOutcome tasks.Traps budgets document net 0 text
     → ListsSets (codes "traps") (place_id net) (λ set. IsTrap (net_of net) (has set)) text)
 
--- `canon` of the canonical text of a valued document that breaks no rule writes that text
+-- what `bounds` prints is a bound for each place, and none that it prints is passed at a reachable marking
+abbrev pub PrintBoundsThatHold : Type 0
+PrintBoundsThatHold =
+    (budgets : Budgets) (document : Document) (net : NetLists) (text : List ℕ) → TaskOutcome tasks.Bounds budgets document net 0 text
+    → (bounds : List (Option PlaceBound)) × (text ≡ bounds_text (place_id net) bounds) × BoundsHold (net_of net) bounds
+
+-- and it is the least bound that a semiflow of places gives
+abbrev pub PrintLeastBounds : Type 0
+PrintLeastBounds =
+    (budgets : Budgets) (document : Document) (net : NetLists) (text : List ℕ) → TaskOutcome tasks.Bounds budgets document net 0 text
+    → (bounds : List (Option PlaceBound)) × (text ≡ bounds_text (place_id net) bounds) × AreLeastBounds (net_of net) bounds
+
+-- where `commoner` prints that freedom from deadlock is proved, no reachable marking is dead
+abbrev pub ProvedNetsNeverDie : Type 0
+ProvedNetsNeverDie =
+    (budgets : Budgets) (document : Document) (net : NetLists)
+    → TaskOutcome tasks.Commoner budgets document net 0 (codes "commoner yes\ndeadlock-free proved\n") → IsDeadlockFree (net_of net)
+
+-- where `live` prints that the net is proved to be live, it is
+abbrev pub ProvedNetsLive : Type 0
+ProvedNetsLive =
+    (budgets : Budgets) (document : Document) (net : NetLists) → TaskOutcome tasks.Live budgets document net 0 (codes "live proved\n")
+    → IsLive (net_of net)
+
+-- `canon` of the canonical text of a valued document that breaks no rule writes that text, and does nothing else
 abbrev pub CanonStays : Type 0
 CanonStays =
-    (budgets : Budgets) (document : Document) (status : ℕ) (text : List ℕ) → Valued document → BreaksNoRule document
-    → Outcome (Run tasks.Canon budgets) (canon document) status text → (status ≡ 0) × (text ≡ canon document)
+    (budgets : Budgets) (document : Document) → Valued document → BreaksNoRule document
+    → Outcome (Run tasks.Canon budgets) (canon document) 0 (canon document)
+    × ((status : ℕ) (text : List ℕ) → Outcome (Run tasks.Canon budgets) (canon document) status text → (status ≡ 0) × (text ≡ canon document))

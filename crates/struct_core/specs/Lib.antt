@@ -1,8 +1,11 @@
 -- What a run of the program means.
 pub mod Words
-pub mod Columns
+pub mod Matrices
 pub mod Enumerations
+pub mod Verdicts
 pub mod Outcome
 pub mod Answers
 pub mod Run
+pub mod Completeness
+pub mod Determined
 pub mod Laws

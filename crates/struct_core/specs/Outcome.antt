@@ -1,9 +1,11 @@
 -- What an order gives for an input: a status and a text, or a status and the line that tells it.
 use Rattle.std.specs.Prelude.{◌≡◌, ◌↔◌, ℕ, List, IsTrue, codes}
 use Rattle.net_values.specs.declared.document.Document.{Document}
-use Rattle.net_values.specs.Net.{Net, reversed}
+use Rattle.net_values.specs.Net.{Net}
 use Rattle.net_values.specs.FlatNets.{NetLists, net_of}
 use Rattle.closed_sets.specs.Commoner.{IsOrdinary}
+use Rattle.closed_sets.specs.MinimalSets.{IsMinimalSet, IsMinimalTrapSet}
+use Rattle.siphon_branch.specs.Limits.{IsGrownSet, IsGrownTrapSet}
 use Rattle.net_class.specs.declared.membership.Class.{Class}
 use Rattle.net_class.specs.Classes.{IsStateMachine, IsMarkedGraph, IsFreeChoice}
 use Rattle.incidence.specs.Matrix.{incidence_of, transposed}
@@ -22,6 +24,7 @@ use Rattle.struct_core.specs.declared.order.Order.{Order}
 use Rattle.struct_core.specs.declared.order.Order.TheVariants.{Run}
 use Rattle.report.specs.FaultLines.{document_line, rule_line}
 use Rattle.struct_core.specs.Enumerations.{SemiflowOutcome, SetOutcome}
+use Rattle.struct_core.specs.Verdicts.{BoundOutcome, CommonerOutcome, LiveOutcome}
 
 -- the classes to which a net belongs (Murata 1989)
 pub record HasClass (net : Net) (class : Class) : Type 0 where
@@ -30,8 +33,7 @@ pub record HasClass (net : Net) (class : Class) : Type 0 where
   pub marked_graph : IsTrue class.marked_graph ↔ IsMarkedGraph net
   pub free_choice : IsTrue class.free_choice ↔ IsFreeChoice net
 
--- what a task gives for a document that breaks no rule, and for its flat net. Traps are the siphons of the
--- net with every arc turned round
+-- what a task gives for a document that breaks no rule, and for its flat net
 abbrev pub TaskOutcome : Task → Budgets → Document → NetLists → ℕ → List ℕ → Type 0
 TaskOutcome tasks.Check budgets document net status text =
     (status ≡ 0) × (text ≡ check_text (net_of net).places (net_of net).transitions net.arcs)
@@ -43,9 +45,18 @@ TaskOutcome tasks.Places budgets document net status text =
 TaskOutcome tasks.Transitions budgets document net status text =
     SemiflowOutcome (transposed (incidence_of (net_of net))) (transition_id net) (place_id net) budgets.rows status text
 TaskOutcome tasks.Siphons budgets document net status text =
-    SetOutcome (net_of net) (codes "siphons") (place_id net) budgets.sets status text
+    SetOutcome (IsMinimalSet (net_of net)) (IsGrownSet (net_of net)) (codes "siphons") (place_id net) budgets.sets status text
 TaskOutcome tasks.Traps budgets document net status text =
-    SetOutcome (reversed (net_of net)) (codes "traps") (place_id net) budgets.sets status text
+    SetOutcome (IsMinimalTrapSet (net_of net)) (IsGrownTrapSet (net_of net)) (codes "traps") (place_id net) budgets.sets status text
+TaskOutcome tasks.Bounds budgets document net status text =
+    BoundOutcome (net_of net) (place_id net) (transition_id net) budgets.rows status text
+TaskOutcome tasks.Commoner budgets document net status text = CommonerOutcome (net_of net) (place_id net) budgets.sets status text
+TaskOutcome tasks.Live budgets document net status text = LiveOutcome (net_of net) (place_id net) budgets.sets status text
+
+-- the bytes spell the document, and it breaks no rule
+pub record Profile (bytes : List ℕ) (document : Document) : Type 0 where
+  pub spelled : DocBytes document bytes
+  pub rules : BreaksNoRule document
 
 -- what an order gives for an input
 pub data Outcome : Order → List ℕ → ℕ → List ℕ → Type 0 where
@@ -57,5 +68,5 @@ pub data Outcome : Order → List ℕ → ℕ → List ℕ → Type 0 where
       → DocBytes document bytes → FirstBroken document fault → Outcome (Run task budgets) bytes 3 (rule_line fault)
   -- they spell one that breaks none
   answer : (task : Task) (budgets : Budgets) (bytes : List ℕ) (document : Document) (net : NetLists) (status : ℕ) (text : List ℕ)
-      → DocBytes document bytes → BreaksNoRule document → Flat document net → TaskOutcome task budgets document net status text
+      → Profile bytes document → Flat document net → TaskOutcome task budgets document net status text
       → Outcome (Run task budgets) bytes status text

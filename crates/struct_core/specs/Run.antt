@@ -1,8 +1,9 @@
 -- A whole run, by what its devices told before and after it. This is what the program promises.
-use Rattle.std.specs.Prelude.{◌≡◌, ◌≢◌, ◌⊎◌, ℕ, ◌≤◌, ◌<◌, List, length, Option}
+use Rattle.std.specs.Prelude.{◌≡◌, ◌≢◌, ◌⊎◌, ℕ, ◌+◌, ◌≤◌, ◌<◌, List, length, Option}
 use Rattle.std.specs.Io.KnownBytes.{Consumes, Appends, Keeps, IsAtEnd}
+use Rattle.net_values.specs.declared.limits.TheConstants.{MAX_INPUT_BYTES}
 use Rattle.pnml_source.specs.Causes.{Rose}
-use Rattle.pnml_source.specs.Streams.{AppendsFront, TakesExactly}
+use Rattle.pnml_source.specs.Streams.{AppendsFront, TakesAtMost, TakesExactly}
 use Rattle.struct_core.specs.declared.order.Order.{Order}
 use Rattle.struct_core.specs.Words.{Means}
 use Rattle.report.specs.FaultLines.{usage_line, length_line, read_line, write_line, memory_line}
@@ -52,29 +53,41 @@ pub record Answered (words : List (List ℕ)) (source source' out out' : Device)
   pub means : Means words order
   pub read : Consumes source.bytes source'.bytes input
   pub whole : IsAtEnd source'.bytes
-  pub short : length input ≤ 67108864
+  pub short : length input ≤ MAX_INPUT_BYTES
   pub comes : Outcome order input outcome text
   pub refused : outcome ≢ 0 → (status ≡ outcome) × (line ≡ text)
   pub follows : outcome ≡ 0 → (status ≡ 0) ⊎ (status ≡ 9)
   pub done : status ≡ 0 → Appends out.bytes out'.bytes text
   pub cut : status ≡ 9 → Rose out.faults out'.faults × AppendsFront out.bytes out'.bytes text
 
--- a run, apart from what it does to the sink for faults, to which the line goes
-pub record Ran (words : List (List ℕ)) (source source' out out' : Device) (status : ℕ) (line : List ℕ) : Type 0 where
-  -- 2 exactly where the words mean nothing, and then nothing was read
-  pub meant : status ≢ 2 → (order : Order) × Means words order
-  pub usage : status ≡ 2 → (order : Order) → Means words order → ⊥
+-- what a run takes from its source
+pub record Reads (source source' : Device) (status : ℕ) : Type 0 where
+  -- nothing where the words mean nothing
   pub unread : status ≡ 2 → IsUntouched source source'
   -- 8 where the source's count rose, and only where it tells a fault
-  pub read_fault : source.faults < source'.faults → status ≡ 8
-  pub read_cause : status ≡ 8 → Rose source.faults source'.faults
+  pub fault : source.faults < source'.faults → status ≡ 8
+  pub cause : status ≡ 8 → Rose source.faults source'.faults
   -- 7 where one byte more was taken than may be read; see `short` for the other direction
-  pub too_long : status ≡ 7 → TakesExactly source.bytes source'.bytes 67108865
-  -- else the outcome
+  pub too_long : status ≡ 7 → TakesExactly source.bytes source'.bytes (MAX_INPUT_BYTES + 1)
+  -- no run takes more than that byte, unless a read failed
+  pub at_most : status ≢ 8 → TakesAtMost source.bytes source'.bytes (MAX_INPUT_BYTES + 1)
+
+-- what a run does to `out`
+pub record Writes (out out' : Device) (status : ℕ) : Type 0 where
+  -- 9 where the count of `out` rose
+  pub fault : out.faults < out'.faults → status ≡ 9
+  -- on every other status but 0 nothing happened to it
+  pub kept : status ≢ 0 → status ≢ 9 → IsUntouched out out'
+
+-- a run, apart from what it does to the sink for faults, to which the line goes
+pub record Ran (words : List (List ℕ)) (source source' out out' : Device) (status : ℕ) (line : List ℕ) : Type 0 where
+  -- 2 exactly where the words mean nothing
+  pub meant : status ≢ 2 → (order : Order) × Means words order
+  pub usage : status ≡ 2 → (order : Order) → Means words order → ⊥
+  pub reads : Reads source source' status
+  -- the outcome, on every status but 2, 7, 8 and 10
   pub answered : IsAnswered status → Answered words source source' out out' status line
-  -- 9 where the count of `out` rose; on every other status but 0 nothing happened to `out`
-  pub write_fault : out.faults < out'.faults → status ≡ 9
-  pub out_kept : status ≢ 0 → status ≢ 9 → IsUntouched out out'
+  pub writes : Writes out out' status
   -- the line where there is no outcome that gives one
   pub own : HasOwnLine status → OwnLine status line
 

@@ -3,11 +3,13 @@ ghost use Rattle.struct_core.specs.declared.order.Order.{Order as Ordered};
 ghost use Rattle.struct_core.specs.Outcome.{Outcome, TaskOutcome};
 ghost use Rattle.struct_core.specs.Answers.{FailsWith};
 
-use crate::closed::{siphons, traps};
 use crate::order::{Budgets, Order, Task};
-use crate::semiflows::{places, transitions};
+use crate::place_bounds::bound_report;
+use crate::semiflows::semiflow_report;
+use crate::siphons::{siphon_report, trap_report};
+use crate::verdicts::{commoner_report, live_report};
 use net_class::class;
-use net_values::{Document, FlatNet, Text};
+use net_values::{Document, FlatNet, NodeKind, Text};
 use page_flatten::flatten;
 use pnml_decode::decode;
 use pnml_write::canonical;
@@ -55,9 +57,12 @@ fn text_of(
         Task::Check => Ok(check_text(alloc, document, net)?),
         Task::Canon => Ok(canonical(alloc, document)?),
         Task::Class => Ok(class_text(alloc, class(net))?),
-        Task::Places => places(alloc, net, budgets.rows),
-        Task::Transitions => transitions(alloc, net, budgets.rows),
-        Task::Siphons => siphons(alloc, net, budgets.sets),
-        Task::Traps => traps(alloc, net, budgets.sets),
+        Task::Places => semiflow_report(alloc, net, NodeKind::Place, budgets.rows),
+        Task::Transitions => semiflow_report(alloc, net, NodeKind::Transition, budgets.rows),
+        Task::Siphons => siphon_report(alloc, net, budgets.sets),
+        Task::Traps => trap_report(alloc, net, budgets.sets),
+        Task::Bounds => bound_report(alloc, net, budgets.rows),
+        Task::Commoner => commoner_report(alloc, net, budgets.sets),
+        Task::Live => live_report(alloc, net, budgets.sets),
     }
 }

@@ -1,4 +1,6 @@
-ghost use Rattle.struct_core.specs.Laws.{PrintSemiflows, PrintClosedSets, CanonStays};
+ghost use Rattle.struct_core.specs.Completeness.{QuietRunsComplete};
+ghost use Rattle.struct_core.specs.Determined.{HasOneOutcome, HasSomeOutcome};
+ghost use Rattle.struct_core.specs.Laws.{PrintSemiflows, PrintClosedSets, PrintBoundsThatHold, PrintLeastBounds, ProvedNetsNeverDie, ProvedNetsLive, CanonStays};
 
 /// Every vector that `places` and `transitions` print is a semiflow (Colom and Silva 1991).
 pub fn printed_vectors_are_semiflows()
@@ -10,7 +12,46 @@ pub fn printed_sets_are_closed()
     ensures { PrintClosedSets }
 {}
 
-/// `canon` of a canonical text writes that text, where the document breaks no rule.
+/// At every reachable marking a place has at most as many tokens as `bounds` prints for it (Murata 1989).
+pub fn printed_bounds_hold()
+    ensures { PrintBoundsThatHold }
+{}
+
+/// `bounds` prints for each place the least bound that a semiflow of places gives, and none where none covers
+/// it.
+pub fn printed_bounds_are_least()
+    ensures { PrintLeastBounds }
+{}
+
+/// Where `commoner` prints `deadlock-free proved`, no reachable marking is dead (Hack 1972, Murata 1989).
+pub fn deadlock_free_is_proved()
+    ensures { ProvedNetsNeverDie }
+{}
+
+/// Where `live` prints `live proved`, each transition can be fired again after some further firings, whatever
+/// marking has been reached (Hack 1972, Murata 1989).
+pub fn proved_nets_are_live()
+    ensures { ProvedNetsLive }
+{}
+
+/// `canon` of a canonical text writes that text and does nothing else, where the document breaks no rule.
 pub fn canonical_text_stays()
     ensures { CanonStays }
+{}
+
+/// An order has at most one status and one text for an input.
+pub fn one_outcome()
+    ensures { HasOneOutcome }
+{}
+
+/// Every input has an outcome; for the semiflows and the bounds, where it is decided that every step of the
+/// elimination passes or that one fails first.
+pub fn some_outcome()
+    ensures { HasSomeOutcome }
+{}
+
+/// A run without faults, on a document of the profile whose net stays within the limits of the task,
+/// writes the defined text, or memory was refused.
+pub fn quiet_runs_complete()
+    ensures { QuietRunsComplete }
 {}

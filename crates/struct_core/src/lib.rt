@@ -2,14 +2,20 @@
 #![tactic(auto)]
 
 mod answer;
-mod closed;
 mod laws;
 mod order;
+mod place_bounds;
 mod running;
 mod semiflows;
+mod siphons;
+mod verdicts;
 mod words;
 
-pub use laws::{canonical_text_stays, printed_sets_are_closed, printed_vectors_are_semiflows};
+pub use laws::{
+    canonical_text_stays, deadlock_free_is_proved, one_outcome, printed_bounds_are_least,
+    printed_bounds_hold, printed_sets_are_closed, printed_vectors_are_semiflows,
+    proved_nets_are_live, quiet_runs_complete, some_outcome,
+};
 pub use order::{Budgets, Order, Task};
 pub use running::run;
 pub use words::{Words, read_words};

@@ -15,6 +15,12 @@ pub enum Task {
     Siphons,
     /// The minimal traps.
     Traps,
+    /// The least bound of each place that the semiflows of places give.
+    Bounds,
+    /// Whether every siphon contains a marked trap.
+    Commoner,
+    /// Whether a free-choice net is proved to be live.
+    Live,
 }
 
 /// How much the enumerations may take.

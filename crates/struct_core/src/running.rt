@@ -5,12 +5,10 @@ ghost use Rattle.struct_core.specs.Words.{Means};
 use crate::answer::answer;
 use crate::order::Order;
 use crate::words::{Words, read_words};
+use net_values::MAX_INPUT_BYTES;
 use pnml_source::{ReadAllFault, Sink, Source, read_all, write_all};
 use report::{Refusal, status, tell};
 use std::alloc::Global;
-
-// The most bytes that an input may have.
-const MOST_BYTES: usize = 67_108_864;
 
 /// Reads the whole input, and writes the order's text for it.
 fn work<S: Source, O: Sink>(
@@ -24,16 +22,13 @@ fn work<S: Source, O: Sink>(
     ensures { Ran words.now (device (S.left source.old) (S.faults source.old)) (device (S.left source.new) (S.faults source.new))
         (device (O.held out.old) (O.faults out.old)) (device (O.held out.new) (O.faults out.new)) (status_after result) (line_after result) }
 {
-    let bytes = match read_all(alloc, source, MOST_BYTES) {
+    let bytes = match read_all(alloc, source, MAX_INPUT_BYTES) {
         Ok(bytes) => bytes,
         Err(ReadAllFault::ReadFault) => return Err(Refusal::ReadFault),
         Err(ReadAllFault::TooLong) => return Err(Refusal::TooLong),
         Err(ReadAllFault::NoMemory) => return Err(Refusal::NoMemory),
     };
-    let text = match answer(alloc, order, bytes.as_slice()) {
-        Ok(text) => text,
-        Err(refusal) => return Err(refusal),
-    };
+    let text = answer(alloc, order, bytes.as_slice())?;
     match write_all(out, text.as_bytes()) {
         Ok(()) => Ok(()),
         Err(_) => Err(Refusal::WriteFault),

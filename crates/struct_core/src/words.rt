@@ -1,7 +1,7 @@
 ghost use Rattle.std.specs.Prelude.{◌≡◌, ◌∷◌, [], ℕ, List as Listed, IfSome, IfNone};
 ghost use Rattle.struct_core.specs.declared.order.Order.{Order as Meaning};
 ghost use Rattle.struct_core.specs.declared.order.Task.{Task as Meant};
-ghost use Rattle.struct_core.specs.Words.{Means, task_word, IsNoEnumeration};
+ghost use Rattle.struct_core.specs.Words.{Means, task_word, IsNoEnumeration, IsNoVerdict};
 
 use crate::order::{Budgets, Order, Task};
 use net_values::{List, Text};
@@ -22,6 +22,12 @@ const TRANSITIONS: &[u8] = b"transitions";
 const SIPHONS: &[u8] = b"siphons";
 
 const TRAPS: &[u8] = b"traps";
+
+const BOUNDS: &[u8] = b"bounds";
+
+const COMMONER: &[u8] = b"commoner";
+
+const LIVE: &[u8] = b"live";
 
 const DEFAULT_BUDGETS: Budgets = Budgets {
     rows: 20_000,
@@ -56,7 +62,7 @@ fn task_of(word: &[u8]) -> Option<Task>
     }
 }
 
-/// The task that lists what the net has, by its word.
+/// The task that works on the net's lists, by its word.
 fn enumeration_of(word: &[u8]) -> Option<Task>
     ensures found { IfSome result (λ task. word.now ≡ task_word task) }
     ensures none { IfNone result (IsNoEnumeration word.now) }
@@ -69,6 +75,22 @@ fn enumeration_of(word: &[u8]) -> Option<Task>
         Some(Task::Siphons)
     } else if word == TRAPS {
         Some(Task::Traps)
+    } else {
+        verdict_of(word)
+    }
+}
+
+/// The task that tells how many tokens there can be or whether they get stuck, by its word.
+fn verdict_of(word: &[u8]) -> Option<Task>
+    ensures found { IfSome result (λ task. word.now ≡ task_word task) }
+    ensures none { IfNone result (IsNoVerdict word.now) }
+{
+    if word == BOUNDS {
+        Some(Task::Bounds)
+    } else if word == COMMONER {
+        Some(Task::Commoner)
+    } else if word == LIVE {
+        Some(Task::Live)
     } else {
         None
     }

@@ -1,4 +1,4 @@
-use Rattle.struct_core.proofs.Outcomes.{canon_stays}
+use Rattle.struct_core.proofs.SomeOutcome.{canon_stays}
 use Rattle.struct_core.proofs.laws.canonical_text_stays.Goals as goal
 
 pub returns : goal.returns

@@ -1,5 +1,5 @@
 -- A refusal is told by its line.
-use Rattle.struct_core.proofs.Exits.{refusal_told}
+use Rattle.struct_core.proofs.Telling.{refusal_told}
 use Rattle.struct_core.proofs.running.run.Goals as goal
 
 pub returns-in-Err : goal.returns-in-Err

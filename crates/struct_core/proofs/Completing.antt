@@ -1,0 +1,150 @@
+-- A run without faults, on a document whose tasks stay within their limits, can only end with its text or
+-- for want of memory: each other status has a cause that is excluded.
+use Rattle.std.proofs.Common.{◌≡◌, ◌≢◌, ◌⊎◌, ℕ, ◌+◌, ◌≤◌, List, ◌++◌, Option, Some, None, length, refl, sym, ap, subst, ◌∙◌, arith, inl, inr, length-append}
+use Rattle.std.proofs.lemmas.List.{append-nil}
+use Rattle.std.proofs.lemmas.Bool.{cases_eq}
+use Rattle.std.specs.Io.KnownBytes.{Consumes, IsAtEnd}
+use Rattle.net_values.specs.declared.document.Document.{Document}
+use Rattle.net_values.specs.declared.limits.TheConstants.{MAX_INPUT_BYTES}
+use Rattle.net_values.specs.Net.{Net}
+use Rattle.net_values.specs.FlatNets.{NetLists, net_of}
+use Rattle.incidence.specs.Matrix.{Matrix}
+use Rattle.pnml_source.specs.Causes.{Rose}
+use Rattle.pnml_source.specs.Streams.{TakesExactly}
+use Rattle.page_flatten.specs.Flat.{Flat}
+use Rattle.semiflow_elim.specs.declared.fault.ElimFault.TheVariants as faults
+use Rattle.siphon_branch.specs.Limits.{CarriesMore, HasAtMostGrown, IsGrownSet}
+use Rattle.incidence.specs.Matrix.{incidence_of}
+use Rattle.struct_core.specs.Verdicts.{BoundOutcome, all_bounds, wide_bound, no_semiflows, CommonerOutcome, verdict, no_siphons, LiveOutcome, liveness, too_many_siphons}
+use Rattle.free_choice_live.specs.Answers.{IsAsked}
+use Rattle.std.specs.Prelude.{Bool}
+use Rattle.struct_core.specs.declared.order.Task.{Task}
+use Rattle.struct_core.specs.declared.order.Task.TheVariants as tasks
+use Rattle.struct_core.specs.declared.order.Budgets.{Budgets}
+use Rattle.struct_core.specs.declared.order.Order.{Order}
+use Rattle.struct_core.specs.declared.order.Order.TheVariants.{Run}
+use Rattle.struct_core.specs.Words.{Means}
+use Rattle.struct_core.specs.Enumerations.{FailedStep, wide_sum, wide_row, row_budget, SemiflowOutcome, all_semiflows, step_fails, PassedLimit, set_limit, SetOutcome, all_sets, passes_limit}
+use Rattle.struct_core.specs.Outcome.{TaskOutcome, Outcome}
+use Rattle.struct_core.specs.Run.{Device, Answered, Ran}
+use Rattle.struct_core.specs.Completeness.{IsQuiet, IsShort, NoStepFails, NoBoundIsWide, IsNarrow, IsFew, WritesText, QuietRunsComplete}
+use Rattle.struct_core.proofs.Orders.{one_order}
+use Rattle.struct_core.proofs.TaskAnswers.{task_answers}
+use Rattle.siphon_branch.proofs.Limits.{few_not_many}
+
+-- a quiet device tells no fault
+no_fault : (old new : Device) → IsQuiet old new → Rose old.faults new.faults → ⊥
+no_fault old new quiet rose = omega (arith, rose, quiet.steady, quiet.below)
+
+-- the bytes of a short input are too few
+not_too_long : (source' : Option (List ℕ)) (input : List ℕ) → length input ≤ MAX_INPUT_BYTES
+    → TakesExactly (Some input) source' (MAX_INPUT_BYTES + 1) → ⊥
+not_too_long None input short taken = taken.1
+not_too_long (Some rest) input short taken =
+    omega (arith, short, taken.2, ap (λ (t : List ℕ). length t) taken.1 ∙ length-append taken.0 rest)
+
+-- the whole of what was told as left was read
+whole_is : (source' : Option (List ℕ)) (input bytes : List ℕ) → Consumes (Some input) source' bytes → IsAtEnd source' → bytes ≡ input
+whole_is None input bytes taken ended = absurd taken
+whole_is (Some rest) input bytes taken ended = sym (taken ∙ ap (λ (t : List ℕ). bytes ++ t) ended ∙ append-nil bytes)
+
+-- ---- the outcome of a task within its limits
+
+no_step_fails : (m : Matrix) (columns : ℕ → List ℕ) (budget status : ℕ) (line : List ℕ) → NoStepFails m budget → FailedStep m columns budget status line → ⊥
+no_step_fails m columns budget _ _ narrow (wide_sum j fails) = narrow (faults.WideSum j) fails
+no_step_fails m columns budget _ _ narrow (wide_row j fails) = narrow (faults.WideRow j) fails
+no_step_fails m columns budget _ _ narrow (row_budget j count fails) = narrow (faults.RowBudget j count) fails
+
+semiflows_complete : (m : Matrix) (ids columns : ℕ → List ℕ) (budget status : ℕ) (text : List ℕ) → NoStepFails m budget
+    → SemiflowOutcome m ids columns budget status text → status ≡ 0
+semiflows_complete m ids columns budget _ _ narrow (all_semiflows list listed) = refl
+semiflows_complete m ids columns budget _ _ narrow (step_fails status line fails) = absurd (no_step_fails m columns budget status line narrow fails)
+
+not_passed : (IsGrown : List Bool → Type 0) (limit status : ℕ) (line : List ℕ) → ((carried : List (List Bool)) → CarriesMore IsGrown limit carried → ⊥)
+    → PassedLimit IsGrown limit status line → ⊥
+not_passed IsGrown limit _ _ none (set_limit carried many) = none carried many
+
+sets_complete : (IsMinimal IsGrown : List Bool → Type 0) (word : List ℕ) (ids : ℕ → List ℕ) (limit status : ℕ) (text : List ℕ)
+    → ((carried : List (List Bool)) → CarriesMore IsGrown limit carried → ⊥) → SetOutcome IsMinimal IsGrown word ids limit status text → status ≡ 0
+sets_complete IsMinimal IsGrown word ids limit _ _ none (all_sets list few is) = refl
+sets_complete IsMinimal IsGrown word ids limit _ _ none (passes_limit status line passed) = absurd (not_passed IsGrown limit status line none passed)
+
+bounds_complete : (net : Net) (ids columns : ℕ → List ℕ) (budget status : ℕ) (text : List ℕ) → NoStepFails (incidence_of net) budget → NoBoundIsWide net
+    → BoundOutcome net ids columns budget status text → status ≡ 0
+bounds_complete net ids columns budget _ _ narrow none (all_bounds list bounds listed rows size least) = refl
+bounds_complete net ids columns budget _ _ narrow none (wide_bound list row listed wide) = absurd (none list row listed.is wide)
+bounds_complete net ids columns budget _ _ narrow none (no_semiflows status line fails) =
+    absurd (no_step_fails (incidence_of net) columns budget status line narrow fails)
+
+verdict_completes : (net : Net) (ids : ℕ → List ℕ) (limit status : ℕ) (text : List ℕ) → HasAtMostGrown net limit → CommonerOutcome net ids limit status text → status ≡ 0
+verdict_completes net ids limit _ _ few (verdict one text also is spelled) = refl
+verdict_completes net ids limit _ _ few (no_siphons status line passed) =
+    absurd (not_passed (IsGrownSet net) limit status line (λ carried. (few_not_many net limit carried).siphons few) passed)
+
+live_completes : (net : Net) (ids : ℕ → List ℕ) (limit status : ℕ) (text : List ℕ) → (IsAsked net → HasAtMostGrown net limit) → LiveOutcome net ids limit status text → status ≡ 0
+live_completes net ids limit _ _ few (liveness one is) = refl
+live_completes net ids limit _ _ few (too_many_siphons carried asked many) = absurd ((few_not_many net limit carried).siphons (few asked) many)
+
+task_completes : (task : Task) (budgets : Budgets) (document : Document) (net : NetLists) (status : ℕ) (text : List ℕ)
+    → IsNarrow task budgets net → IsFew task budgets net → TaskOutcome task budgets document net status text → status ≡ 0
+task_completes tasks.Check budgets document net status text narrow few outcome = outcome.0
+task_completes tasks.Canon budgets document net status text narrow few outcome = outcome.0
+task_completes tasks.Class budgets document net status text narrow few outcome = outcome.0
+task_completes tasks.Places budgets document net status text narrow few outcome = semiflows_complete _ _ _ _ status text narrow outcome
+task_completes tasks.Transitions budgets document net status text narrow few outcome = semiflows_complete _ _ _ _ status text narrow outcome
+task_completes tasks.Siphons budgets document net status text narrow few outcome =
+    sets_complete _ _ _ _ budgets.sets status text (λ carried. (few_not_many (net_of net) budgets.sets carried).siphons few) outcome
+task_completes tasks.Traps budgets document net status text narrow few outcome =
+    sets_complete _ _ _ _ budgets.sets status text (λ carried. (few_not_many (net_of net) budgets.sets carried).traps few) outcome
+task_completes tasks.Bounds budgets document net status text narrow few outcome = bounds_complete _ _ _ _ status text narrow.0 narrow.1 outcome
+task_completes tasks.Commoner budgets document net status text narrow few outcome = verdict_completes _ _ _ status text few outcome
+task_completes tasks.Live budgets document net status text narrow few outcome = live_completes _ _ _ status text few outcome
+
+-- ---- the run
+
+module _ (words : List (List ℕ)) (task : Task) (budgets : Budgets) (source source' out out' : Device) (status : ℕ) (line : List ℕ)
+    (input : List ℕ) (document : Document) (net : NetLists) (ran : Ran words source source' out out' status line)
+    (means : Means words (Run task budgets)) (reads : IsQuiet source source') (writes : IsQuiet out out') (tells : source.bytes ≡ Some input)
+    (short : IsShort input document) (flat : Flat document net) (narrow : IsNarrow task budgets net) (few : IsFew task budgets net) where
+  not_usage : status ≢ 2
+  not_usage is = ran.usage is (Run task budgets) means
+
+  not_read_fault : status ≢ 8
+  not_read_fault is = no_fault source source' reads (ran.reads.cause is)
+
+  not_long : status ≢ 7
+  not_long is =
+      not_too_long source'.bytes input short.length_is
+      (subst (λ (left : Option (List ℕ)). TakesExactly left source'.bytes (MAX_INPUT_BYTES + 1)) tells (ran.reads.too_long is))
+
+  -- the outcome of the run is that of the order for the input
+  outcome_is : (a : Answered words source source' out out' status line) → Outcome (Run task budgets) input a.outcome a.text
+  outcome_is a =
+      let read : a.input ≡ input = whole_is source'.bytes input a.input (subst (λ (left : Option (List ℕ)). Consumes left source'.bytes a.input) tells a.read) a.whole in
+      subst (λ (order : Order). Outcome order input a.outcome a.text) (one_order words a.order (Run task budgets) a.means means)
+      (subst (λ (bytes : List ℕ). Outcome a.order bytes a.outcome a.text) read a.comes)
+
+  answered_zero : (a : Answered words source source' out out' status line) → a.outcome ≡ 0
+  answered_zero a =
+      task_completes task budgets document net a.outcome a.text narrow few
+      (task_answers task budgets input document net a.outcome a.text short.profile flat (outcome_is a))
+
+  ends : (a : Answered words source source' out out' status line) → (status ≡ 0) ⊎ (status ≡ 9) → WritesText (Run task budgets) input out out' status
+  ends a (inl done) = record {
+    text = a.text;
+    comes = subst (λ (n : ℕ). Outcome (Run task budgets) input n a.text) (answered_zero a) (outcome_is a);
+    done = done;
+    written = a.done done;
+  }
+  ends a (inr cut) = absurd (no_fault out out' writes (a.cut cut).0)
+
+  completes : (status ≡ 10) ⊎ (status ≢ 10) → WritesText (Run task budgets) input out out' status ⊎ (status ≡ 10)
+  completes (inl memory) = inr memory
+  completes (inr answers) =
+      let a : Answered words source source' out out' status line = ran.answered (not_usage, not_long, not_read_fault, answers) in
+      inl (ends a (a.follows (answered_zero a)))
+
+pub quiet_runs : QuietRunsComplete
+quiet_runs words task budgets source source' out out' err err' status input document net run means reads writes tells short flat narrow few =
+    completes words task budgets source source' out out' status run.line input document net run.ran means reads writes tells short flat narrow few
+    (cases_eq status 10)

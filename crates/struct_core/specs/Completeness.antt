@@ -1,0 +1,80 @@
+-- When a run is sure to write its text: no device fails, the document is in the profile, the numbers of its
+-- elimination stay narrow, and its search has few sets to meet.
+use Rattle.std.specs.Prelude.{◌≡◌, ◌⊎◌, ℕ, ◌-◌, ◌^◌, ◌≤◌, ◌<◌, List, Some, length}
+use Rattle.std.specs.Io.KnownBytes.{Appends}
+use Rattle.net_values.specs.declared.document.Document.{Document}
+use Rattle.net_values.specs.declared.limits.TheConstants.{MAX_INPUT_BYTES}
+use Rattle.net_values.specs.FlatNets.{NetLists, net_of}
+use Rattle.net_values.specs.Net.{Net}
+use Rattle.net_values.specs.TheList.{IsTheList}
+use Rattle.page_flatten.specs.Flat.{Flat}
+use Rattle.bounds.specs.Listed.{IsFirstWideRow}
+use Rattle.incidence.specs.Semiflow.{all_columns}
+use Rattle.semiflow_elim.specs.Bases.{IsMinimalRow}
+use Rattle.std.specs.Cmp.Lexicographic.{slice_cmp}
+use Rattle.std.specs.Ordering.{nat_cmp}
+use Rattle.incidence.specs.Matrix.{Matrix, incidence_of, transposed}
+use Rattle.semiflow_elim.specs.declared.fault.ElimFault.{ElimFault}
+use Rattle.semiflow_elim.specs.FirstFail.{IsFirstFail}
+use Rattle.siphon_branch.specs.Limits.{HasAtMostGrown, HasAtMostGrownTraps}
+use Rattle.struct_core.specs.declared.order.Task.{Task}
+use Rattle.struct_core.specs.declared.order.Task.TheVariants as tasks
+use Rattle.struct_core.specs.declared.order.Budgets.{Budgets}
+use Rattle.struct_core.specs.declared.order.Order.{Order}
+use Rattle.struct_core.specs.declared.order.Order.TheVariants.{Run}
+use Rattle.free_choice_live.specs.Answers.{IsAsked}
+use Rattle.struct_core.specs.Outcome.{Outcome, Profile}
+use Rattle.struct_core.specs.Run.{Device, HasRun}
+use Rattle.struct_core.specs.Words.{Means}
+
+-- the count of a device neither rose nor is at its last value
+pub record IsQuiet (old new : Device) : Type 0 where
+  pub steady : new.faults ≤ old.faults
+  pub below : new.faults < 2 ^ 64 - 1
+
+-- the input is no longer than may be read, and spells the document, which breaks no rule
+pub record IsShort (bytes : List ℕ) (document : Document) : Type 0 where
+  pub length_is : length bytes ≤ MAX_INPUT_BYTES
+  pub profile : Profile bytes document
+
+-- no step of the elimination fails
+abbrev pub NoStepFails : Matrix → ℕ → Type 0
+NoStepFails m budget = (fault : ElimFault) → IsFirstFail m budget fault → ⊥
+
+-- no listed semiflow of places is wide
+abbrev pub NoBoundIsWide : Net → Type 0
+NoBoundIsWide net = (list : List (List ℕ)) (row : ℕ) → IsTheList (slice_cmp nat_cmp) (IsMinimalRow (incidence_of net) all_columns) list
+    → IsFirstWideRow net list row → ⊥
+
+-- no number of the task is wide, and no step has more candidates than the budget
+abbrev pub IsNarrow : Task → Budgets → NetLists → Type 0
+IsNarrow tasks.Places budgets net = NoStepFails (incidence_of (net_of net)) budgets.rows
+IsNarrow tasks.Transitions budgets net = NoStepFails (transposed (incidence_of (net_of net))) budgets.rows
+IsNarrow tasks.Bounds budgets net = NoStepFails (incidence_of (net_of net)) budgets.rows × NoBoundIsWide (net_of net)
+IsNarrow _ budgets net = Unit
+
+-- the sets that the task's search meets are no more than the limit
+abbrev pub IsFew : Task → Budgets → NetLists → Type 0
+IsFew tasks.Siphons budgets net = HasAtMostGrown (net_of net) budgets.sets
+IsFew tasks.Traps budgets net = HasAtMostGrownTraps (net_of net) budgets.sets
+IsFew tasks.Commoner budgets net = HasAtMostGrown (net_of net) budgets.sets
+IsFew tasks.Live budgets net = IsAsked (net_of net) → HasAtMostGrown (net_of net) budgets.sets
+IsFew _ budgets net = Unit
+
+-- the status is 0, and the text of the order for the input was written
+pub record WritesText (order : Order) (input : List ℕ) (out out' : Device) (status : ℕ) : Type 0 where
+  pub text : List ℕ
+  pub comes : Outcome order input 0 text
+  pub done : status ≡ 0
+  pub written : Appends out.bytes out'.bytes text
+
+-- where the words mean a task, no device fails and the source tells a short input, whose net is narrow and
+-- has few sets, the defined text is written, or memory was refused
+abbrev pub QuietRunsComplete : Type 0
+QuietRunsComplete =
+    (words : List (List ℕ)) (task : Task) (budgets : Budgets) (source source' out out' err err' : Device) (status : ℕ)
+    (input : List ℕ) (document : Document) (net : NetLists)
+    → HasRun words source source' out out' err err' status → Means words (Run task budgets)
+    → IsQuiet source source' → IsQuiet out out' → source.bytes ≡ Some input → IsShort input document
+    → Flat document net → IsNarrow task budgets net → IsFew task budgets net
+    → WritesText (Run task budgets) input out out' status ⊎ (status ≡ 10)

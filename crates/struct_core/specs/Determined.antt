@@ -1,0 +1,43 @@
+-- Whether an order has an outcome for an input, and whether it has one only.
+use Rattle.std.specs.Prelude.{◌≡◌, ◌⊎◌, ℕ, List}
+use Rattle.net_values.specs.declared.document.Document.{Document}
+use Rattle.net_values.specs.FlatNets.{NetLists, net_of}
+use Rattle.incidence.specs.Matrix.{Matrix, incidence_of, transposed}
+use Rattle.semiflow_elim.specs.declared.fault.ElimFault.{ElimFault}
+use Rattle.semiflow_elim.specs.Generated.{IsGenerated}
+use Rattle.semiflow_elim.specs.FirstFail.{IsFirstFail}
+use Rattle.incidence.specs.Semiflow.{all_columns, IsSemiflow}
+use Rattle.page_flatten.specs.Flat.{Flat}
+use Rattle.struct_core.specs.declared.order.Task.{Task}
+use Rattle.struct_core.specs.declared.order.Task.TheVariants as tasks
+use Rattle.struct_core.specs.declared.order.Budgets.{Budgets}
+use Rattle.struct_core.specs.declared.order.Order.{Order}
+use Rattle.struct_core.specs.declared.order.Order.TheVariants.{Run}
+use Rattle.struct_core.specs.Enumerations.{AreListed}
+use Rattle.struct_core.specs.Outcome.{Outcome, Profile}
+
+-- an order has at most one status and one text for an input
+abbrev pub HasOneOutcome : Type 0
+HasOneOutcome =
+    (order : Order) (input : List ℕ) (status other : ℕ) (text line : List ℕ) → Outcome order input status text → Outcome order input other line
+    → (status ≡ other) × (text ≡ line)
+
+-- every step passes and a list has the semiflows of minimal support, which generate all, or a step fails first
+abbrev pub IsEliminationDecided : Matrix → ℕ → Type 0
+IsEliminationDecided m budget =
+    ((list : List (List ℕ)) × AreListed m budget list × ((y : ℕ → ℕ) → IsSemiflow m all_columns y → IsGenerated m list y))
+    ⊎ ((fault : ElimFault) × IsFirstFail m budget fault)
+
+-- what has to be decided for a task: nothing but the elimination
+abbrev pub IsDecided : Task → Budgets → NetLists → Type 0
+IsDecided tasks.Places budgets net = IsEliminationDecided (incidence_of (net_of net)) budgets.rows
+IsDecided tasks.Transitions budgets net = IsEliminationDecided (transposed (incidence_of (net_of net))) budgets.rows
+IsDecided tasks.Bounds budgets net = IsEliminationDecided (incidence_of (net_of net)) budgets.rows
+IsDecided _ budgets net = Unit
+
+-- every input has an outcome, where the elimination of its net is decided
+abbrev pub HasSomeOutcome : Type 0
+HasSomeOutcome =
+    (task : Task) (budgets : Budgets) (input : List ℕ)
+    → ((document : Document) (net : NetLists) → Profile input document → Flat document net → IsDecided task budgets net)
+    → (status : ℕ) × (text : List ℕ) × Outcome (Run task budgets) input status text
