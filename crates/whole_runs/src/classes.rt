@@ -14,12 +14,6 @@ const STATE_MACHINE: &[u8] = b"ordinary yes\nstate-machine yes\nmarked-graph no\
 
 const MARKED_GRAPH: &[u8] = b"ordinary yes\nstate-machine no\nmarked-graph yes\nfree-choice yes\n";
 
-/// `class` on an input.
-const CLASS: Row<'static> = Row {
-    words: &["class"],
-    ..CHECK
-};
-
 const TEXTS: [NetText; 7] = [
     ("a cycle", CYCLE, ALL),
     ("parallel arcs, which add up", TWIN, NONE),
@@ -32,17 +26,19 @@ const TEXTS: [NetText; 7] = [
 
 #[test]
 fn classes_of_nets_are_told(rt: HostRuntime) -> Result<(), Fail> {
-    check_texts(&rt, rt.alloc(), CLASS.words, &TEXTS)?;
+    check_texts(&rt, rt.alloc(), &["class"], &TEXTS)?;
     let mutex = Row {
         shows: "a shared lock",
+        words: &["class"],
         input: MUTEX,
         out: ORDINARY_ALONE,
-        ..CLASS
+        ..CHECK
     };
     check_row(&rt, rt.alloc(), &mutex)?;
     let synchronized = Row {
         shows: "a transition with two inputs and two outputs",
-        ..CLASS
+        words: &["class"],
+        ..CHECK
     };
     let input = fan(rt.alloc(), 2)?;
     Ok(check_input(&rt, rt.alloc(), &synchronized, input, FREE_CHOICE)?)

@@ -3,6 +3,8 @@
 #![tactic(auto)]
 
 #[cfg(test)]
+mod bounds_and_verdicts;
+#[cfg(test)]
 mod classes;
 #[cfg(test)]
 mod devices;

@@ -8,16 +8,6 @@ use std::alloc::Global;
 use std::process::Abort;
 use std::test::Fail;
 
-const PLACES: Row<'static> = Row {
-    words: &["places"],
-    ..CHECK
-};
-
-const TRANSITIONS: Row<'static> = Row {
-    words: &["transitions"],
-    ..CHECK
-};
-
 const OF_PLACES: [NetText; 7] = [
     ("semiflows of places", CYCLE, b"1*p 1*q\nsemiflows 1\n"),
     ("coefficients above 1", SCALE, b"3*p 2*q\nsemiflows 1\n"),
@@ -80,9 +70,10 @@ fn check_wide(rt: &impl Abort, alloc: Global, nets: &[NetText]) -> Result<(), No
     for (shows, net, err) in nets {
         let row = Row {
             shows: *shows,
+            words: &["places"],
             status: 4,
             err: *err,
-            ..PLACES
+            ..CHECK
         };
         check_net(rt, alloc, net, &row)?;
     }
@@ -91,21 +82,23 @@ fn check_wide(rt: &impl Abort, alloc: Global, nets: &[NetText]) -> Result<(), No
 
 #[test]
 fn minimal_semiflows_are_listed(rt: HostRuntime) -> Result<(), Fail> {
-    check_texts(&rt, rt.alloc(), PLACES.words, &OF_PLACES)?;
-    check_texts(&rt, rt.alloc(), TRANSITIONS.words, &OF_TRANSITIONS)?;
+    check_texts(&rt, rt.alloc(), &["places"], &OF_PLACES)?;
+    check_texts(&rt, rt.alloc(), &["transitions"], &OF_TRANSITIONS)?;
     check_wide(&rt, rt.alloc(), &WIDE)?;
     let mutex = Row {
         shows: "supports of two sizes",
+        words: &["places"],
         input: MUTEX,
         out: b"1*idle2 1*crit2\n1*crit1 1*crit2 1*lock\n1*idle1 1*crit1\nsemiflows 3\n",
-        ..PLACES
+        ..CHECK
     };
     check_row(&rt, rt.alloc(), &mutex)?;
     let cycles = Row {
         shows: "two cycles of transitions",
+        words: &["transitions"],
         input: MUTEX,
         out: b"1*enter2 1*leave2\n1*enter1 1*leave1\nsemiflows 2\n",
-        ..TRANSITIONS
+        ..CHECK
     };
     Ok(check_row(&rt, rt.alloc(), &cycles)?)
 }
@@ -114,7 +107,8 @@ fn minimal_semiflows_are_listed(rt: HostRuntime) -> Result<(), Fail> {
 fn more_candidates_than_the_budget_are_counted(rt: HostRuntime) -> Result<(), Fail> {
     let small = Row {
         shows: "each pair of an input and an output",
-        ..PLACES
+        words: &["places"],
+        ..CHECK
     };
     check_input(
         &rt,
@@ -125,15 +119,17 @@ fn more_candidates_than_the_budget_are_counted(rt: HostRuntime) -> Result<(), Fa
     )?;
     let wide = Row {
         shows: "142 * 142 pairs",
+        words: &["places"],
         status: 5,
         err: b"row budget 20000 passed at t: 20164 candidates\n",
-        ..PLACES
+        ..CHECK
     };
     check_input(&rt, rt.alloc(), &wide, fan(rt.alloc(), 142)?, b"")?;
     let turned = Row {
         shows: "the first place leaves no transition",
+        words: &["transitions"],
         out: b"semiflows 0\n",
-        ..TRANSITIONS
+        ..CHECK
     };
     Ok(check_input(&rt, rt.alloc(), &turned, fan(rt.alloc(), 142)?, turned.out)?)
 }

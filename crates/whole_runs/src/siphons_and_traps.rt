@@ -2,16 +2,6 @@ use crate::fixture::{CHECK, NetText, Row, check_input, check_row, check_texts};
 use crate::nets::{ALONE, CYCLE, ISLES, LINE, MUTEX, PRUNE, choices};
 use std::test::Fail;
 
-const SIPHONS: Row<'static> = Row {
-    words: &["siphons"],
-    ..CHECK
-};
-
-const TRAPS: Row<'static> = Row {
-    words: &["traps"],
-    ..CHECK
-};
-
 const MINIMAL_SIPHONS: [NetText; 5] = [
     ("a siphon", CYCLE, b"p q\nsiphons 1\n"),
     ("a place that gets no token", LINE, b"p\nsiphons 1\n"),
@@ -29,20 +19,22 @@ const MINIMAL_TRAPS: [NetText; 4] = [
 
 #[test]
 fn minimal_siphons_and_traps_are_listed(rt: HostRuntime) -> Result<(), Fail> {
-    check_texts(&rt, rt.alloc(), SIPHONS.words, &MINIMAL_SIPHONS)?;
-    check_texts(&rt, rt.alloc(), TRAPS.words, &MINIMAL_TRAPS)?;
+    check_texts(&rt, rt.alloc(), &["siphons"], &MINIMAL_SIPHONS)?;
+    check_texts(&rt, rt.alloc(), &["traps"], &MINIMAL_TRAPS)?;
     let siphons = Row {
         shows: "siphons that share a place",
+        words: &["siphons"],
         input: MUTEX,
         out: b"idle2 crit2\ncrit1 crit2 lock\nidle1 crit1\nsiphons 3\n",
-        ..SIPHONS
+        ..CHECK
     };
     check_row(&rt, rt.alloc(), &siphons)?;
     let traps = Row {
         shows: "traps that share a place",
+        words: &["traps"],
         input: MUTEX,
         out: b"idle2 crit2\ncrit1 crit2 lock\nidle1 crit1\ntraps 3\n",
-        ..TRAPS
+        ..CHECK
     };
     Ok(check_row(&rt, rt.alloc(), &traps)?)
 }
@@ -51,7 +43,8 @@ fn minimal_siphons_and_traps_are_listed(rt: HostRuntime) -> Result<(), Fail> {
 fn more_siphons_than_the_limit_are_told(rt: HostRuntime) -> Result<(), Fail> {
     let few = Row {
         shows: "four siphons that are grown and not minimal",
-        ..SIPHONS
+        words: &["siphons"],
+        ..CHECK
     };
     check_input(
         &rt,
@@ -62,14 +55,16 @@ fn more_siphons_than_the_limit_are_told(rt: HostRuntime) -> Result<(), Fail> {
     )?;
     let many = Row {
         shows: "10^5 siphons with the first place and 50 without it",
+        words: &["siphons"],
         status: 6,
         err: b"set limit 100000 passed\n",
-        ..SIPHONS
+        ..CHECK
     };
     check_input(&rt, rt.alloc(), &many, choices(rt.alloc(), 5, 10)?, b"")?;
     let turned = Row {
         shows: "the first place is the least trap",
-        ..TRAPS
+        words: &["traps"],
+        ..CHECK
     };
     Ok(check_input(
         &rt,
