@@ -1,4 +1,4 @@
-use crate::nets::{Net, document};
+use crate::nets::{HEAD, Net, REAR, document};
 use net_values::{NoMemory, Text};
 use pnml_source::{MemorySink, MemorySource};
 use std::alloc::Global;
@@ -89,6 +89,24 @@ pub fn check_texts(
             ..CHECK
         };
         check_net(rt, alloc, net, &row)?;
+    }
+    Ok(())
+}
+
+/// What is shown, the items of a net, and the line that tells why `check` refuses it.
+pub type ItemsLine = (&'static str, &'static [u8], &'static [u8]);
+
+/// Runs `check` on each net, which it refuses.
+pub fn check_refused(rt: &impl Abort, alloc: Global, lines: &[ItemsLine]) -> Result<(), NoMemory> {
+    for (shows, items, err) in lines {
+        let row = Row {
+            shows: *shows,
+            input: &[HEAD, *items, REAR],
+            status: 3,
+            err: *err,
+            ..CHECK
+        };
+        check_row(rt, alloc, &row)?;
     }
     Ok(())
 }

@@ -8,33 +8,36 @@ pub const HEAD: &[u8] =
 /// What follows them.
 pub const REAR: &[u8] = b"</net></pnml>";
 
-/// A net as a table: its places with their tokens, its transitions, and its arcs with their weights.
+/// An arc: its source, its target and its weight.
+type Arc = (&'static str, &'static str, u64);
+
+/// A net as a table: its places with their tokens, its transitions, and its arcs, in parts that nets may share.
 #[derive(Clone, Copy)]
 pub struct Net {
     pub places: &'static [(&'static str, u64)],
     pub transitions: &'static [&'static str],
-    pub arcs: &'static [(&'static str, &'static str, u64)],
+    pub arcs: &'static [&'static [Arc]],
 }
 
 /// A token that goes round.
 pub const CYCLE: Net = Net {
     places: &[("p", 1), ("q", 0)],
     transitions: &["t", "u"],
-    arcs: &[("p", "t", 1), ("t", "q", 1), ("q", "u", 1), ("u", "p", 1)],
+    arcs: &[&[("p", "t", 1), ("t", "q", 1), ("q", "u", 1), ("u", "p", 1)]],
 };
 
 /// The same with weights.
 pub const SCALE: Net = Net {
     places: &[("p", 5), ("q", 0)],
     transitions: &["t", "u"],
-    arcs: &[("p", "t", 2), ("t", "q", 3), ("q", "u", 3), ("u", "p", 2)],
+    arcs: &[&[("p", "t", 2), ("t", "q", 3), ("q", "u", 3), ("u", "p", 2)]],
 };
 
 /// A combination of rows here has more places than it needs.
 pub const PRUNE: Net = Net {
     places: &[("a", 0), ("b", 0), ("c", 0), ("d", 0)],
     transitions: &["t1", "t2"],
-    arcs: &[
+    arcs: &[&[
         ("c", "t1", 1),
         ("d", "t1", 1),
         ("t1", "a", 1),
@@ -43,65 +46,62 @@ pub const PRUNE: Net = Net {
         ("d", "t2", 1),
         ("t2", "a", 1),
         ("t2", "c", 1),
-    ],
+    ]],
 };
 
-/// Each transition makes 2^63 tokens of one.
+/// 2^63.
+const MANY: u64 = 9_223_372_036_854_775_808;
+
+/// The steps of a chain, in each of which a transition makes 2^63 tokens of one.
+const FIRST_STEP: &[Arc] = &[("p1", "t1", 1), ("t1", "p2", MANY)];
+
+const SECOND_STEP: &[Arc] = &[("p2", "t2", 1), ("t2", "p3", MANY)];
+
+const THIRD_STEP: &[Arc] = &[("p3", "t3", 1), ("t3", "p4", MANY)];
+
 pub const CHAIN_OF_2: Net = Net {
     places: &[("p1", 1), ("p2", 0), ("p3", 0)],
     transitions: &["t1", "t2"],
-    arcs: &[
-        ("p1", "t1", 1),
-        ("t1", "p2", 9_223_372_036_854_775_808),
-        ("p2", "t2", 1),
-        ("t2", "p3", 9_223_372_036_854_775_808),
-    ],
+    arcs: &[FIRST_STEP, SECOND_STEP],
 };
 
 pub const CHAIN_OF_3: Net = Net {
     places: &[("p1", 1), ("p2", 0), ("p3", 0), ("p4", 0)],
     transitions: &["t1", "t2", "t3"],
-    arcs: &[
-        ("p1", "t1", 1),
-        ("t1", "p2", 9_223_372_036_854_775_808),
-        ("p2", "t2", 1),
-        ("t2", "p3", 9_223_372_036_854_775_808),
-        ("p3", "t3", 1),
-        ("t3", "p4", 9_223_372_036_854_775_808),
-    ],
+    arcs: &[FIRST_STEP, SECOND_STEP, THIRD_STEP],
 };
 
 /// A chain of 2 whose first place, of which a semiflow has 2^126, is weighed twice.
 pub const WIDE_SUM: Net = Net {
-    places: &[("p1", 1), ("p2", 0), ("p3", 0)],
     transitions: &["t1", "t2", "t3"],
-    arcs: &[
-        ("p1", "t1", 1),
-        ("t1", "p2", 9_223_372_036_854_775_808),
-        ("p2", "t2", 1),
-        ("t2", "p3", 9_223_372_036_854_775_808),
-        ("p1", "t3", 2),
-    ],
+    arcs: &[FIRST_STEP, SECOND_STEP, &[("p1", "t3", 2)]],
+    ..CHAIN_OF_2
+};
+
+/// A chain of 2 with a token more, so that the semiflow weighs 2^127 tokens.
+pub const WIDE_BOUND: Net = Net {
+    places: &[("p1", 2), ("p2", 0), ("p3", 0)],
+    ..CHAIN_OF_2
 };
 
 /// The rows here stay in range where both they and the differences are divided by their common divisors.
 pub const DIVIDED: Net = Net {
     places: &[("p", 0), ("q", 0), ("r", 0), ("s", 0)],
     transitions: &["t1", "t2", "t3"],
-    arcs: &[
+    arcs: &[&[
         ("p", "t1", 4),
         ("t1", "q", 4),
         ("q", "t2", 1),
-        ("t2", "r", 9_223_372_036_854_775_808),
+        ("t2", "r", MANY),
         ("r", "t3", 1),
-        ("t3", "s", 9_223_372_036_854_775_808),
-    ],
+        ("t3", "s", MANY),
+    ]],
 };
 
 pub const LINE: Net = Net {
     places: &[("p", 1), ("q", 0)],
     transitions: &["t"],
-    arcs: &[("p", "t", 1), ("t", "q", 1)],
+    arcs: &[&[("p", "t", 1), ("t", "q", 1)]],
 };
 
 /// Places only.
@@ -122,7 +122,7 @@ pub const ALONE: Net = Net {
 pub const TWIN: Net = Net {
     places: &[("p", 0), ("q", 0)],
     transitions: &["t"],
-    arcs: &[("p", "t", 1), ("p", "t", 1), ("t", "q", 1)],
+    arcs: &[&[("p", "t", 1), ("p", "t", 1), ("t", "q", 1)]],
 };
 
 /// Two processes that exclude each other by a lock, as a tool writes them: with names, graphics, a part for
@@ -175,9 +175,7 @@ pub fn document(alloc: Global, net: &Net) -> Result<Vec<u8>, NoMemory> {
         let tag = format!(in alloc; "<transition id=\"{id}\"/>")?;
         bytes.extend_from_slice(tag.as_bytes())?;
     }
-    for (i, (source, target, weight)) in net.arcs.iter().enumerate() {
-        push_arc(&mut bytes, i + 1, source, target, *weight)?;
-    }
+    push_arcs(&mut bytes, net.arcs)?;
     bytes.extend_from_slice(REAR)?;
     Ok(bytes)
 }
@@ -192,6 +190,17 @@ fn push_place(bytes: &mut Vec<u8>, id: &str, tokens: u64) -> Result<(), NoMemory
         )?
     };
     bytes.extend_from_slice(element.as_bytes())?;
+    Ok(())
+}
+
+fn push_arcs(bytes: &mut Vec<u8>, parts: &[&[Arc]]) -> Result<(), NoMemory> {
+    let mut number = 1;
+    for part in parts {
+        for (source, target, weight) in *part {
+            push_arc(bytes, number, source, target, *weight)?;
+            number = number.saturating_add(1);
+        }
+    }
     Ok(())
 }
 
