@@ -4,7 +4,7 @@
     bench/check.py [RUNS]
 
 The documents have the most places, transitions and arcs: `graphics` is mostly positions, `tools` mostly
-tool-specific parts, `names` mostly names, `plain` a document of these nodes alone. A line tells the size, the
+tool-specific parts, `names` mostly names, `plain` a document of only these nodes. A line tells the size, the
 best processor time of RUNS runs (by default 3), the throughput, the most memory beyond the input, and how many
 times as long the two others take, `-` where they aren't there. Wanted are 100 MB/s and at most 300 MB.
 """

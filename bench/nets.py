@@ -16,7 +16,7 @@ MOST_BYTES = 64 << 20
 
 
 class Net:
-    """A net in the making. `inner` is put into each place, transition and arc behind its number."""
+    """A net in the making. `inner` is put into each place, transition and arc after its number."""
 
     def __init__(self, inner=""):
         self.inner = inner

@@ -8,7 +8,7 @@ The nets are small ones, philosophers, fans, token rings, manufacturing systems 
 the net, its places and transitions, the task, the answer, the best processor time of RUNS runs (by default 3)
 of the whole process, how many times that of the size before it is, the most memory, and how many times as long
 the other program takes for the same list: 4ti2 for semiflows, gringo and clasp for siphons and traps. `late`
-stands where that takes over 20 seconds. The run fails where two lists differ.
+is written where that takes over 20 seconds. The run fails where two lists differ.
 """
 import os
 import shutil
@@ -30,7 +30,7 @@ FAMILIES = [
 PATIENCE = 20
 RAYS = shutil.which("4ti2-rays") or shutil.which("rays")
 CLASP = shutil.which("gringo") and shutil.which("clasp")
-# A nonempty set is a siphon where no transition puts into it without taking from it; smallest sets come alone.
+# A nonempty set is a siphon where no transition puts into it without taking from it; only smallest sets come.
 SIPHONS = """
 { in(P) } :- place(P).
 :- not in(P) : place(P).

@@ -1,5 +1,5 @@
 -- A run without faults, on a document whose tasks stay within their limits, can only end with its text or
--- for want of memory: each other status has a cause that is excluded.
+-- out of memory: each other status has a cause that is excluded.
 use Rattle.std.proofs.Common.{◌≡◌, ◌≢◌, ◌⊎◌, ℕ, ◌+◌, ◌≤◌, List, ◌++◌, Option, Some, None, length, refl, sym, ap, subst, ◌∙◌, arith, inl, inr, length-append}
 use Rattle.std.proofs.lemmas.List.{append-nil}
 use Rattle.std.proofs.lemmas.Bool.{cases_eq}
