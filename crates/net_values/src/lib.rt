@@ -4,6 +4,8 @@
 
 mod alike;
 mod column;
+mod copy_list;
+mod decimal;
 mod document;
 mod flat_net;
 mod laws;
@@ -21,6 +23,8 @@ mod vector;
 
 pub use alike::{AlikeList, Listed};
 pub use column::WeightedPlace;
+pub use copy_list::CopyList;
+pub use decimal::read_decimal;
 pub use document::{
     ArcNode, Document, Item, Items, NetTree, PageNode, PlaceNode, RefNode, TransitionNode,
 };
