@@ -1,12 +1,10 @@
 use super::*;
 use net_values::NoMemory;
 use siphon_branch::minimal_siphons;
-use small_nets::{Arc, net_with, place_set};
+use small_nets::{Arc, CYCLE, MUTEX, net_with, place_set};
 use std::test::Fail;
 
-/// Two places in a ring, and in a line.
-const RING: &[Arc] = &[(0, 0, -1), (1, 0, 1), (1, 1, -1), (0, 1, 1)];
-
+/// Two places in a line.
 const LINE: &[Arc] = &[(0, 0, -1), (1, 0, 1)];
 
 /// A fork and a join, after which all begins again.
@@ -17,22 +15,6 @@ const FORK: &[Arc] = &[
     (1, 1, -1),
     (2, 1, -1),
     (0, 1, 1),
-];
-
-/// Two parties that exclude each other by a lock, the last place.
-const LOCK: &[Arc] = &[
-    (0, 0, -1),
-    (4, 0, -1),
-    (1, 0, 1),
-    (1, 1, -1),
-    (0, 1, 1),
-    (4, 1, 1),
-    (2, 2, -1),
-    (4, 2, -1),
-    (3, 2, 1),
-    (3, 3, -1),
-    (2, 3, 1),
-    (4, 3, 1),
 ];
 
 /// A siphon of two places that isn't a trap, since a transition takes from the first and gives nothing. The
@@ -59,7 +41,7 @@ const CLASSES: [ClassRow; 15] = [
     ClassRow {
         shows: "a ring",
         nodes: (2, 2),
-        arcs: RING,
+        arcs: CYCLE,
         classes: [true, true, true, true],
     },
     ClassRow {
@@ -131,7 +113,7 @@ const CLASSES: [ClassRow; 15] = [
     ClassRow {
         shows: "a lock",
         nodes: (5, 4),
-        arcs: LOCK,
+        arcs: MUTEX,
         classes: [true, false, false, false],
     },
     ClassRow {
@@ -162,14 +144,14 @@ const VERDICTS: [VerdictRow; 9] = [
         shows: "a token that goes round",
         marking: &[1, 0],
         transitions: 2,
-        arcs: RING,
+        arcs: CYCLE,
         named: None,
     },
     VerdictRow {
         shows: "no token",
         marking: &[0, 0],
         transitions: 2,
-        arcs: RING,
+        arcs: CYCLE,
         named: Some(&[0, 1]),
     },
     VerdictRow {
@@ -204,7 +186,7 @@ const VERDICTS: [VerdictRow; 9] = [
         shows: "a lock",
         marking: &[1, 0, 1, 0, 1],
         transitions: 4,
-        arcs: LOCK,
+        arcs: MUTEX,
         named: None,
     },
     VerdictRow {

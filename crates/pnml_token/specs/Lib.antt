@@ -1,6 +1,8 @@
--- What the readers of pnml_token say of their answers.
+-- What a token is stands in pnml_grammar. The public clauses cite the words of Steps on the variants of an answer, to be
+-- read and believed.
+pub mod Steps
+-- Only clauses of private functions and lemmas cite these.
 pub mod ByteClasses
 pub mod Gives
 pub mod Views
 pub mod Pieces
-pub mod Steps
