@@ -6,3 +6,6 @@ pub mod Lowest
 pub mod SortedLists
 pub mod OneList
 pub mod PlaceSets
+pub mod PlaceWords
+pub mod PlaceFlips
+pub mod PlaceOrder

@@ -2,6 +2,7 @@
 pub mod Characters
 pub mod Items
 pub mod PlaceSets
+pub mod PlaceWords
 pub mod Vectors
 pub mod TheList
 pub mod Columns

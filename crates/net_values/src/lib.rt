@@ -15,6 +15,7 @@ mod marking;
 mod no_memory;
 mod node_kind;
 mod place_set;
+mod place_words;
 #[cfg(test)]
 mod tests;
 mod text;

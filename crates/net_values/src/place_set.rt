@@ -5,31 +5,36 @@ ghost use Rattle.std.specs.Cmp.{partial_order_from_own_ties};
 ghost use Rattle.std.specs.Cmp.Lexicographic.{slice_cmp};
 ghost use Rattle.std.specs.Cmp.Rules.{comparing};
 ghost use Rattle.std.specs.Ordering.{is_eq, as_partial_cmp, bool_cmp};
-ghost use Rattle.net_values.specs.PlaceSets.{complement, has, IsEmpty, IsSubset};
+ghost use Rattle.net_values.specs.PlaceSets.{complement, has, IsEmpty, IsSubset, IsWithinEither};
 
 use crate::alike::{AlikeList, Listed};
 use crate::limits::MAX_ENTRIES;
 use crate::no_memory::NoMemory;
+use crate::place_words::{
+    are_within, are_within_either, are_zero, first_difference, flipped_words, has_bit, with_bit,
+    without_bit,
+};
 use std::alloc::Global;
 use std::cmp::Ordering;
 use std::marker::Model;
 
 /// A set of place numbers below a fixed size. Contracts see it as the list of truth values that tell
-/// for each place whether it is in.
+/// for each place whether it is in. It keeps 64 places in a word.
 #[derive(Drop)]
 pub struct PlaceSet {
-    members: Vec<bool>,
+    words: Vec<u64>,
+    size: usize,
 }
 
 impl Model for PlaceSet {
-    ghost use Rattle.std.specs.Prelude.{List, Bool, ◌≤◌, length};
-    ghost use Rattle.net_values.specs.declared.limits.TheConstants.{MAX_ENTRIES};
+    ghost use Rattle.std.specs.Prelude.{List, Bool};
+    ghost use Rattle.net_values.specs.PlaceWords.{AreWords, members_of};
 
     ghost Value = { List Bool };
 
-    ghost view = { λ s. s.members.items };
+    ghost view = { λ s. members_of s.words.items s.size };
 
-    ghost invariant = { λ s. length s.members.items ≤ MAX_ENTRIES };
+    ghost invariant = { λ s. AreWords s.words.items s.size };
 }
 
 impl PlaceSet {
@@ -39,7 +44,8 @@ impl PlaceSet {
         ensures { IfOk result (λ set. set ≡ replicate size false) }
     {
         Ok(PlaceSet {
-            members: vec![in alloc; false; size]?,
+            words: vec![in alloc; 0u64; (size + 63) / 64]?,
+            size,
         })
     }
 
@@ -48,7 +54,8 @@ impl PlaceSet {
         ensures { IfOk result (λ set. set ≡ self.now) }
     {
         Ok(PlaceSet {
-            members: Vec::from_slice(alloc, self.members.as_slice())?,
+            words: Vec::from_slice(alloc, self.words.as_slice())?,
+            size: self.size,
         })
     }
 
@@ -56,11 +63,10 @@ impl PlaceSet {
     pub fn complement(&self, alloc: Global) -> Result<PlaceSet, NoMemory>
         ensures { IfOk result (λ others. others ≡ complement self.now) }
     {
-        let mut members = Vec::with_capacity(alloc, self.size())?;
-        for member in self.members.as_slice() {
-            members.push(!*member)?;
-        }
-        Ok(PlaceSet { members })
+        Ok(PlaceSet {
+            words: flipped_words(alloc, self.words.as_slice(), self.size)?,
+            size: self.size,
+        })
     }
 
     /// Makes this set equal to another of the same size. It takes no memory.
@@ -68,7 +74,7 @@ impl PlaceSet {
         requires { length self.old ≡ length other.now }
         ensures { self.new ≡ other.now }
     {
-        self.members.copy_from_slice(other.members.as_slice());
+        self.words.copy_from_slice(other.words.as_slice());
     }
 
     /// The size: each place in the set is below it.
@@ -76,7 +82,7 @@ impl PlaceSet {
         ensures value { result ≡ length self.now }
         ensures bound { result ≤ MAX_ENTRIES }
     {
-        self.members.len()
+        self.size
     }
 
     /// Whether place `p` is in the set.
@@ -84,14 +90,14 @@ impl PlaceSet {
         requires { p < length self.now }
         ensures { result ≡ has self.now p }
     {
-        self.members[p]
+        has_bit(self.words[p / 64], p % 64)
     }
 
     /// Whether no place is in the set.
     pub fn is_empty(&self) -> bool
         ensures { IsTrue result ↔ IsEmpty self.now }
     {
-        self.members.iter().all(|member| !*member)
+        are_zero(self.words.as_slice())
     }
 
     /// Puts place `p` into the set.
@@ -99,7 +105,7 @@ impl PlaceSet {
         requires { p < length self.old }
         ensures { self.new ≡ slice_set self.old p true }
     {
-        self.members[p] = true;
+        self.words[p / 64] = with_bit(self.words[p / 64], p % 64);
     }
 
     /// Takes place `p` out of the set.
@@ -107,7 +113,7 @@ impl PlaceSet {
         requires { p < length self.old }
         ensures { self.new ≡ slice_set self.old p false }
     {
-        self.members[p] = false;
+        self.words[p / 64] = without_bit(self.words[p / 64], p % 64);
     }
 
     /// Whether each place of this set is in the other, of the same size.
@@ -115,10 +121,20 @@ impl PlaceSet {
         requires { length self.now ≡ length other.now }
         ensures { IsTrue result ↔ IsSubset self.now other.now }
     {
-        self.members
-            .iter()
-            .zip(other.members.as_slice())
-            .all(|(member, in_other)| !*member || *in_other)
+        are_within(self.words.as_slice(), other.words.as_slice())
+    }
+
+    /// Whether each place of this set is in one of two others, all of one size.
+    pub fn is_within_either(&self, first: &PlaceSet, second: &PlaceSet) -> bool
+        requires first { length self.now ≡ length first.now }
+        requires second { length self.now ≡ length second.now }
+        ensures { IsTrue result ↔ IsWithinEither self.now first.now second.now }
+    {
+        are_within_either(
+            self.words.as_slice(),
+            first.words.as_slice(),
+            second.words.as_slice(),
+        )
     }
 }
 
@@ -158,7 +174,11 @@ impl Ord for PlaceSet {
     ghost matches_eq = { Prim.search (comparing, rules) };
 
     fn cmp(&self, other: &PlaceSet) -> Ordering {
-        self.members.cmp(&other.members)
+        match first_difference(self.words.as_slice(), other.words.as_slice()) {
+            Some(true) => Ordering::Greater,
+            Some(false) => Ordering::Less,
+            None => self.size.cmp(&other.size),
+        }
     }
 }
 

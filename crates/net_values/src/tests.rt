@@ -180,3 +180,34 @@ fn lists_are_joined_in_their_order(rt: HostRuntime) -> Result<(), Fail> {
     assert_eq!(rt; List::<u8>::new(alloc).into_first(), None);
     Ok(())
 }
+
+#[test]
+fn sets_keep_their_places_across_words(rt: HostRuntime) -> Result<(), Fail> {
+    let alloc = rt.alloc();
+    let mut set = PlaceSet::new(alloc, 4096)?;
+    assert!(rt; set.size() == 4096 && set.is_empty());
+    for p in [0, 63, 64, 4095] {
+        assert!(rt; p < set.size());
+        set.insert(p);
+    }
+    set.remove(63);
+    let others = set.complement(alloc)?;
+    assert!(rt; set.size() == 4096 && others.size() == 4096);
+    for (p, is_in) in [
+        (0, true),
+        (63, false),
+        (64, true),
+        (4094, false),
+        (4095, true),
+    ] {
+        assert!(rt; p < set.size() && p < others.size());
+        assert_eq!(rt;
+            (set.contains(p), others.contains(p)),
+            (is_in, !is_in),
+            "{p}"
+        );
+    }
+    assert!(rt; !set.is_subset(&others) && set.is_subset(&set) && set > others);
+    assert!(rt; set.is_within_either(&others, &set) && !set.is_within_either(&others, &others));
+    Ok(())
+}
