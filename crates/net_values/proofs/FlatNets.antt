@@ -10,6 +10,7 @@ use Rattle.net_values.specs.declared.flat_net.FlatPlace.{FlatPlace}
 use Rattle.net_values.specs.declared.flat_net.FlatTransition.{FlatTransition}
 use Rattle.net_values.specs.Columns.{weight_at, AddsAt, IsColumn, Lists}
 use Rattle.net_values.proofs.Columns.{weight_here, lists_itself}
+use Rattle.net_values.specs.Net.{reversed}
 use Rattle.net_values.specs.FlatNets.{turned, with_place, with_transition, initial_marking, net_of, NetLists, AreWeights, IsFlatNet, Adds, Keeps, KeepsNodes, AddsInput, AddsOutput}
 
 pub few_tokens : {places arcs : ℕ} {weights : ℕ → ℕ → ℕ} → AreWeights places arcs weights → arcs ≤ MAX_ARCS → (p t : ℕ) → weights p t < 2 ^ 80
@@ -94,6 +95,17 @@ module _ (side : FlatTransition → List WeightedPlace) where
             omega (arith, weight_here column k d kept here, weighs place, few_tokens h few place t),
       )
 
+-- a transition that isn't there has no arcs
+pub weighs_within : (side : FlatTransition → List WeightedPlace) (transitions : List FlatTransition) (p t : ℕ) → side (bare []) ≡ [] → 0 < weight_at (side (get_or transitions t (bare []))) p → t < length transitions
+weighs_within side transitions p t without some =
+    elim (cases_lt t (length transitions)) [
+      | inl within ↦ within
+      | inr past ↦
+          let nothing : weight_at (side (get_or transitions t (bare []))) p ≡ 0 =
+          ap (λ (transition : FlatTransition). weight_at (side transition) p) (get_or_past transitions t (bare []) past) ∙ ap (λ (column : List WeightedPlace). weight_at column p) without in
+          absurd (omega arith)
+    ]
+
 ids_kept : (transitions : List FlatTransition) (t : ℕ) (old new : FlatTransition) → t < length transitions → old ≡ get_or transitions t old → new.id ≡ old.id → map (λ (transition : FlatTransition). transition.id) (set transitions t new) ≡ map (λ (transition : FlatTransition). transition.id) transitions
 ids_kept transitions t old new within read same =
     let ids : List (List ℕ) = map (λ (transition : FlatTransition). transition.id) transitions in
@@ -130,16 +142,31 @@ turned_ids : (transitions : List FlatTransition) → map (λ (transition : FlatT
 turned_ids [] = refl
 turned_ids (transition ∷ transitions) = ap (λ ids. transition.id ∷ ids) (turned_ids transitions)
 
-abbrev turned_lists : NetLists → NetLists
+abbrev pub turned_lists : NetLists → NetLists
 turned_lists lists = record { places = lists.places; transitions = map turned lists.transitions; arcs = lists.arcs }
+
+pub turned_weights : (lists : NetLists) → Keeps (net_of lists).post (net_of (turned_lists lists)).pre × Keeps (net_of lists).pre (net_of (turned_lists lists)).post
+turned_weights lists = (
+  λ q u. ap (λ (transition : FlatTransition). weight_at transition.inputs q) (turned_at lists.transitions u),
+  λ q u. ap (λ (transition : FlatTransition). weight_at transition.outputs q) (turned_at lists.transitions u),
+)
+
+pub turned_is_reversed : (lists : NetLists) → net_of (turned_lists lists) ≡ reversed (net_of lists)
+turned_is_reversed lists = λ i. record {
+  places = length lists.places;
+  transitions = length-map lists.transitions turned i;
+  pre = λ q u. (turned_weights lists).0 q u i;
+  post = λ q u. (turned_weights lists).1 q u i;
+  initial = (net_of lists).initial;
+}
 
 pub turned_net : (lists : NetLists) → IsFlatNet lists → IsFlatNet (turned_lists lists)
 turned_net lists h = record {
   places = h.places;
   transitions = omega (arith, h.transitions, length-map lists.transitions turned);
   arcs = h.arcs;
-  pre = still_weights h.post (λ q u. ap (λ (transition : FlatTransition). weight_at transition.inputs q) (turned_at lists.transitions u));
-  post = still_weights h.pre (λ q u. ap (λ (transition : FlatTransition). weight_at transition.outputs q) (turned_at lists.transitions u));
+  pre = still_weights h.post (turned_weights lists).0;
+  post = still_weights h.pre (turned_weights lists).1;
 }
 
 pub turned_nodes : (lists : NetLists) → KeepsNodes lists (turned_lists lists)

@@ -1,6 +1,8 @@
 pub mod OneLength
 pub mod Columns
+pub mod AscendingLists
 pub mod FlatNets
+pub mod PlaceLists
 pub mod TokenCounts
 pub mod Lowest
 pub mod SortedLists

@@ -1,11 +1,12 @@
 -- A net with its ids, as lists: the places and the transitions in order, and the number of arcs that
 -- were added. The net itself is read off by `net_of`.
-use Rattle.std.specs.Prelude.{◌≡◌, ℕ, ◌+◌, ◌-◌, ◌*◌, ◌^◌, ◌<◌, ◌≤◌, ◌==◌, ◌&&◌, if◌then◌else◌, List, [], ◌∷◌, ◌++◌, length, map, slice_index_or}
+use Rattle.std.specs.Prelude.{◌≡◌, ◌↔◌, ℕ, ◌+◌, ◌-◌, ◌*◌, ◌^◌, ◌<◌, ◌≤◌, ◌==◌, ◌&&◌, if◌then◌else◌, List, [], ◌∷◌, ◌++◌, length, map, Contains, slice_index_or}
 use Rattle.net_values.specs.declared.limits.TheConstants.{MAX_PLACES, MAX_TRANSITIONS, MAX_ARCS}
 use Rattle.net_values.specs.declared.flat_net.FlatPlace.{FlatPlace}
 use Rattle.net_values.specs.declared.flat_net.FlatTransition.{FlatTransition}
 use Rattle.net_values.specs.Columns.{weight_at}
 use Rattle.net_values.specs.Net.{Net}
+use Rattle.net_values.specs.PlaceArcs.{ArcLists, arcs_at}
 
 pub record NetLists : Type 0 where
   pub places : List FlatPlace
@@ -58,6 +59,17 @@ pub record IsFlatNet (lists : NetLists) : Type 0 where
   pub arcs : lists.arcs ≤ MAX_ARCS
   pub pre : AreWeights (length lists.places) lists.arcs (net_of lists).pre
   pub post : AreWeights (length lists.places) lists.arcs (net_of lists).post
+
+-- each place has its list of the transitions that take from it, and of those that give to it
+pub record ListArcs (lists : NetLists) (by_place : List ArcLists) : Type 0 where
+  pub count : length by_place ≡ length lists.places
+  pub takers : (p t : ℕ) → (Contains (arcs_at by_place p).takers t) ↔ (0 < (net_of lists).pre p t)
+  pub givers : (p t : ℕ) → (Contains (arcs_at by_place p).givers t) ↔ (0 < (net_of lists).post p t)
+
+-- the arcs are kept by transition, and by place too
+pub record IsKeptTwice (lists : NetLists) (by_place : List ArcLists) : Type 0 where
+  pub net : IsFlatNet lists
+  pub arcs : ListArcs lists by_place
 
 -- one weight is raised, and the others stay
 abbrev pub Adds : (ℕ → ℕ → ℕ) → (ℕ → ℕ → ℕ) → ℕ → ℕ → ℕ → Type 0

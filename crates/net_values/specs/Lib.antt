@@ -7,6 +7,7 @@ pub mod Vectors
 pub mod TheList
 pub mod Columns
 pub mod Net
+pub mod PlaceArcs
 pub mod FlatNets
 pub mod Nodes
 pub mod TokenGame

@@ -1,10 +1,12 @@
 ghost use Rattle.std.specs.Prelude.{◌≡◌, IfOk, map};
 ghost use Rattle.net_values.specs.FlatNets.{turned};
+ghost use Rattle.net_values.specs.PlaceArcs.{arcs_turned};
 
 use crate::column::{Column, WeightedPlace};
 use crate::limits::{MAX_ARCS, MAX_PLACES, MAX_TRANSITIONS};
 use crate::no_memory::NoMemory;
 use crate::node_kind::NodeKind;
+use crate::place_arcs::PlaceArcs;
 use crate::text::Text;
 use std::alloc::Global;
 use std::marker::Model;
@@ -26,16 +28,17 @@ pub struct FlatTransition {
 
 /// A place/transition net (ISO/IEC 15909-1) with at most `MAX_PLACES` places, `MAX_TRANSITIONS`
 /// transitions and `MAX_ARCS` arcs. Contracts see its places and transitions in order and the number
-/// of arcs that were added.
+/// of arcs that were added. The arcs are kept twice, by transition and by place.
 #[derive(Drop)]
 pub struct FlatNet {
     places: Vec<FlatPlace>,
     transitions: Vec<FlatTransition>,
     arcs: usize,
+    by_place: Vec<PlaceArcs>,
 }
 
 impl Model for FlatNet {
-    ghost use Rattle.net_values.specs.FlatNets.{NetLists, IsFlatNet};
+    ghost use Rattle.net_values.specs.FlatNets.{NetLists, IsKeptTwice};
 
     ghost Value = { NetLists };
 
@@ -45,11 +48,11 @@ impl Model for FlatNet {
       arcs = n.arcs;
     } };
 
-    ghost invariant = { λ n. IsFlatNet record {
+    ghost invariant = { λ n. IsKeptTwice record {
       places = n.places.items;
       transitions = n.transitions.items;
       arcs = n.arcs;
-    } };
+    } n.by_place.items };
 }
 
 impl FlatNet {
@@ -58,6 +61,7 @@ impl FlatNet {
     ghost use Rattle.net_values.specs.FlatNets.{net_of, place_at, transition_at, with_place, with_transition};
     ghost use Rattle.net_values.specs.FlatNets.{IsFlatNet, AddsInput, AddsOutput, KeepsNodes};
     ghost use Rattle.net_values.specs.Net.{reversed};
+    ghost use Rattle.net_values.specs.PlaceArcs.{ListsPositive};
     ghost use Rattle.net_values.specs.Nodes.{node_count, node_id};
 
     /// The empty net, which takes no memory until it grows.
@@ -68,6 +72,7 @@ impl FlatNet {
             places: Vec::new(alloc),
             transitions: Vec::new(alloc),
             arcs: 0,
+            by_place: Vec::new(alloc),
         }
     }
 
@@ -78,7 +83,10 @@ impl FlatNet {
         ensures ok { OnOk result (self.new ≡ with_place self.old id initial) }
         ensures err { OnErr result (self.new ≡ self.old) }
     {
+        self.by_place.reserve(1)?;
         self.places.push(FlatPlace { id, initial })?;
+        let alloc = *self.by_place.allocator();
+        self.by_place.push_reserved(PlaceArcs::new(alloc));
         Ok(())
     }
 
@@ -107,7 +115,8 @@ impl FlatNet {
         ensures ok { OnOk result (AddsInput self.old self.new p t weight) }
         ensures err { OnErr result (self.new ≡ self.old) }
     {
-        self.transitions[t].inputs.add(p, u128::from(weight))?;
+        let inputs = &mut self.transitions[t].inputs;
+        self.by_place[p].add_taker(t, inputs, p, u128::from(weight))?;
         self.arcs += 1;
         Ok(())
     }
@@ -122,7 +131,8 @@ impl FlatNet {
         ensures ok { OnOk result (AddsOutput self.old self.new t p weight) }
         ensures err { OnErr result (self.new ≡ self.old) }
     {
-        self.transitions[t].outputs.add(p, u128::from(weight))?;
+        let outputs = &mut self.transitions[t].outputs;
+        self.by_place[p].add_giver(t, outputs, p, u128::from(weight))?;
         self.arcs += 1;
         Ok(())
     }
@@ -237,6 +247,24 @@ impl FlatNet {
         self.transitions[t].outputs.as_slice()
     }
 
+    /// The transitions with an arc from place `p`, in ascending order.
+    pub fn takers(&self, p: usize) -> &[usize]
+        requires { p < (net_of self.now).places }
+        ensures lists { ListsPositive (λ t. (net_of self.now).pre p t) result.now }
+        ensures within { All (λ t. t < (net_of self.now).transitions) result.now }
+    {
+        self.by_place[p].takers()
+    }
+
+    /// The transitions with an arc to place `p`, in ascending order.
+    pub fn givers(&self, p: usize) -> &[usize]
+        requires { p < (net_of self.now).places }
+        ensures lists { ListsPositive (λ t. (net_of self.now).post p t) result.now }
+        ensures within { All (λ t. t < (net_of self.now).transitions) result.now }
+    {
+        self.by_place[p].givers()
+    }
+
     /// The net with every arc turned round: `Pre` and `Post` are exchanged, and all else is kept.
     pub fn reverse(&self, alloc: Global) -> Result<FlatNet, NoMemory>
         ensures net { IfOk result (λ other. net_of other ≡ reversed (net_of self.now)) }
@@ -247,6 +275,7 @@ impl FlatNet {
             places: copies(alloc, self.places.as_slice())?,
             transitions: exchanged(alloc, self.transitions.as_slice())?,
             arcs: self.arcs,
+            by_place: turned_round(alloc, self.by_place.as_slice())?,
         })
     }
 }
@@ -276,6 +305,17 @@ fn exchanged(alloc: Global, transitions: &[FlatTransition]) -> Result<Vec<FlatTr
             inputs: transition.outputs.copy(alloc)?,
             outputs: transition.inputs.copy(alloc)?,
         })?;
+    }
+    Ok(copies)
+}
+
+/// Copies of the arcs of the places, each turned round.
+fn turned_round(alloc: Global, by_place: &[PlaceArcs]) -> Result<Vec<PlaceArcs>, NoMemory>
+    ensures { IfOk result (λ copies. copies.items ≡ map arcs_turned by_place.now) }
+{
+    let mut copies = Vec::with_capacity(alloc, by_place.len())?;
+    for arcs in by_place {
+        copies.push(arcs.turned(alloc)?)?;
     }
     Ok(copies)
 }

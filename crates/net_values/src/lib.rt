@@ -14,6 +14,7 @@ mod list;
 mod marking;
 mod no_memory;
 mod node_kind;
+mod place_arcs;
 mod place_set;
 mod place_words;
 #[cfg(test)]

@@ -34,6 +34,8 @@ fn nets_add_parallel_arcs_and_fire_within_the_limits(rt: HostRuntime) -> Result<
     let alloc = rt.alloc();
     let mut net = ring(&rt, alloc)?;
     assert!(rt; net.places() == 2 && net.transitions() == 2 && net.arcs() == 4);
+    assert_eq!(rt; net.takers(0), [0].as_slice());
+    assert_eq!(rt; net.givers(0), [1].as_slice());
     let mut marking = Marking::initial(alloc, &net)?;
     assert!(rt; marking.places() == net.places());
     assert_eq!(rt; net.fire(&mut marking, 0), Ok(()));
@@ -59,6 +61,8 @@ fn nets_add_parallel_arcs_and_fire_within_the_limits(rt: HostRuntime) -> Result<
         (b"q".as_slice(), b"t".as_slice())
     );
     assert_eq!(rt; (back.initial(0), back.initial(1)), (1, 0));
+    assert_eq!(rt; back.takers(0), [1].as_slice());
+    assert_eq!(rt; back.givers(0), [0].as_slice());
     Ok(())
 }
 

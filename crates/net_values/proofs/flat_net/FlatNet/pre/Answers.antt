@@ -5,5 +5,5 @@ use Rattle.net_values.proofs.flat_net.FlatNet.pre.Goals as goal
 pub returns-clause-bound : goal.returns-clause-bound
 returns-clause-bound c =
     let within = rw (← c.self.view_is) at c.requires.transition in
-    let narrow = read_narrow inputs_of _ _ _ _ c.args.p _ c.self.invariant.pre c.self.invariant.arcs within c.index.ensures in
+    let narrow = read_narrow inputs_of _ _ _ _ c.args.p _ c.self.invariant.net.pre c.self.invariant.net.arcs within c.index.ensures in
     omega (arith, c.weight.ensures, narrow)
