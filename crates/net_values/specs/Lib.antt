@@ -2,7 +2,6 @@
 pub mod Characters
 pub mod Items
 pub mod PlaceSets
-pub mod PlaceWords
 pub mod Vectors
 pub mod TheList
 pub mod Columns
@@ -13,3 +12,5 @@ pub mod Nodes
 pub mod TokenGame
 -- A lemma on which the order of place sets rests.
 pub mod Comparisons
+-- Only clauses of private functions and lemmas cite this.
+pub mod PlaceWords
