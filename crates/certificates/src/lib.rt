@@ -3,7 +3,17 @@
 #![tactic(auto)]
 
 mod certificate;
+mod fault;
+mod keywords;
+mod line;
+mod lines;
+mod numbers;
+mod progress;
+mod reading;
+mod words;
 
 pub use certificate::{
     BoundLines, Certificate, Claim, Claims, Flow, Flows, PlaceList, TreeLine, TreeLines,
 };
+pub use fault::ReadFault;
+pub use reading::read;
