@@ -7,3 +7,6 @@ pub mod LineReading
 pub mod Progressing
 pub mod LineSplits
 pub mod ReadLines
+pub mod DueTrees
+pub mod OneReading
+pub mod Texts

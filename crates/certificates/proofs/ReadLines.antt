@@ -25,7 +25,7 @@ use Rattle.certificates.proofs.LineReading.{line_found, line_again, words_texts}
 use Rattle.certificates.proofs.LineSplits.{bytes_of, same_lines, HasLines, has_lines}
 use Rattle.certificates.proofs.Progressing.{values_of, read_on, read_append, certificate_read, completes, ended_is, each_claim}
 
-abbrev NoFeed : ℕ → Type 0
+abbrev pub NoFeed : ℕ → Type 0
 NoFeed byte = byte ≢ 10
 
 -- ---- lines of certificates
@@ -68,7 +68,7 @@ front_free line proper =
 pub is_line : (line : Line) → IsProper line → IsLine (spelled line)
 is_line line proper = (front_of line, each_all NoFeed (front_of line) (front_free line proper), spelled_is line)
 
-are_lines : (values : List Line) → AllByRecursion IsProper values → AllByRecursion IsLine (map spelled values)
+pub are_lines : (values : List Line) → AllByRecursion IsProper values → AllByRecursion IsLine (map spelled values)
 are_lines values proper = each_mapped IsLine spelled values (each_map IsProper (λ line. IsLine (spelled line)) is_line values proper)
 
 -- a proper line is spelled as no other
@@ -204,7 +204,7 @@ line_is_bad bytes rest line after progress number h parts free stops =
 
 -- ---- at the end
 
-text_lines : (certificate : Certificate) → certificate_text certificate ≡ bytes_of (map spelled (values_of certificate)) ++ []
+pub text_lines : (certificate : Certificate) → certificate_text certificate ≡ bytes_of (map spelled (values_of certificate)) ++ []
 text_lines certificate = ap bytes_of (lines_are certificate) ∙ sym (append-nil (bytes_of (map spelled (values_of certificate))))
 
 -- what spells a certificate is read as it
@@ -241,3 +241,18 @@ end_spells bytes rest progress number certificate h ended none =
       well_formed = e.1;
       text = h.joined ∙ ap (λ (xs : List ℕ). bytes_of (map spelled h.values) ++ xs) none ∙ ap (λ (vs : List Line). bytes_of (map spelled vs) ++ []) e.0 ∙ sym (text_lines certificate);
     }
+
+-- ---- the first line, cut off
+
+pub line_parts : (rest line after : List ℕ) → line ≡ before 10 rest → from_first 10 rest ≡ 10 ∷ after → rest ≡ line ++ 10 ∷ after
+line_parts rest line after is behind = first_parts 10 rest ∙ (λ i. sym is i ++ behind i)
+
+pub line_free : (rest line : List ℕ) → line ≡ before 10 rest → IsFree 10 line
+line_free rest line is = subst (IsFree 10) (sym is) (before_free 10 rest)
+
+pub rest_free : (rest : List ℕ) → from_first 10 rest ≡ [] → IsFree 10 rest
+rest_free rest none = subst (IsFree 10) (sym (first_parts 10 rest ∙ ap (λ (xs : List ℕ). before 10 rest ++ xs) none ∙ append-nil (before 10 rest))) (before_free 10 rest)
+
+pub nothing_left : (rest : List ℕ) → length rest ≡ 0 → rest ≡ []
+nothing_left [] size = refl
+nothing_left (byte ∷ rest) size = absurd (omega (arith, size))
