@@ -1,0 +1,4 @@
+-- Certificates that are made: the definitions.
+pub mod PlaceLists
+pub mod BoundCertificates
+pub mod Making

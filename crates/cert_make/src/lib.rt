@@ -1,0 +1,12 @@
+//! Certificates for answers on a net: its bounds by semiflows, a siphon without a marked trap, and a tree that has
+//! a marked trap for every siphon. Each is well formed, and all that its lines ask of the net holds.
+#![tactic(auto)]
+
+mod bad_siphon;
+mod bound_lines;
+mod fault;
+mod flows;
+
+pub use bad_siphon::bad_siphon_certificate;
+pub use bound_lines::bound_certificate;
+pub use fault::BoundCertFault;
