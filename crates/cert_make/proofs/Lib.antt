@@ -4,3 +4,8 @@ pub mod Counts
 pub mod FlowLists
 pub mod ClaimLists
 pub mod BoundParts
+pub mod Parting
+pub mod TreeMaking
+pub mod NextPlaces
+pub mod PlaceTrees
+pub mod WideChecks

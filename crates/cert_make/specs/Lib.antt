@@ -2,3 +2,6 @@
 pub mod PlaceLists
 pub mod BoundCertificates
 pub mod Making
+pub mod Classes
+pub mod Trees
+pub mod Laws
