@@ -13,7 +13,7 @@ ghost use Rattle.bounds.specs.Listed.{NameFirstRows, IsFirstWideRow, AreNarrowRo
 use crate::bound_list::Bounds;
 use crate::fault::BoundFault;
 use crate::place_bound::tighten_all;
-use crate::tokens::initial_tokens;
+use incidence::initial_tokens;
 use net_values::{FlatNet, Rows};
 use std::alloc::Global;
 

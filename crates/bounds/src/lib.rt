@@ -8,7 +8,6 @@ mod least_bounds;
 mod place_bound;
 #[cfg(test)]
 mod tests;
-mod tokens;
 
 pub use bound_list::Bounds;
 pub use fault::BoundFault;

@@ -23,7 +23,7 @@ use Rattle.certificates.specs.Laws.{AcceptedOrAFalseLine}
 use Rattle.cert_check.specs.Flows.{IsBalanced, IsBalancedAt, LiesWithin}
 use Rattle.cert_check.specs.Walks.{allowed_in}
 use Rattle.cert_check.proofs.EmptyClasses.{none_there, place_lacking, one_there}
-use Rattle.cert_check.proofs.MarkedTraps.{greatest_marked}
+use Rattle.closed_sets.proofs.MarkedTraps.{greatest_marked}
 
 abbrev pub Decided : Type 0 → Type 0
 Decided P = P ⊎ (P → ⊥)

@@ -3,7 +3,6 @@ pub mod Counts
 pub mod Decisions
 pub mod EmptyClasses
 pub mod Lines
-pub mod MarkedTraps
 pub mod Matches
 pub mod Moves
 pub mod SiphonLines

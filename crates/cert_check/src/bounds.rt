@@ -8,8 +8,8 @@ ghost use Rattle.cert_check.specs.Flows.{BoundsPlace, FailsFirst, IsClaim};
 
 use crate::flows::{flow_holds, load};
 use crate::line_checks::Rejected;
-use crate::tokens::initial_tokens;
 use certificates::{BoundLines, Claim, Flow};
+use incidence::initial_tokens;
 use net_values::{FlatNet, Vector};
 
 /// Checks the lines of bounds: each flow, then each claim by its flow. The vector is scratch.

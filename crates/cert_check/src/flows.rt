@@ -4,8 +4,7 @@ ghost use Rattle.certificates.specs.Conditions.{FlowHolds, vector_of};
 ghost use Rattle.certificates.specs.WellFormed.{IsFlow, IsNumberFrom};
 ghost use Rattle.cert_check.specs.Flows.{IsBalanced, IsBalancedAt, LiesWithin};
 
-use crate::tokens::initial_tokens;
-use incidence::net_sums;
+use incidence::{initial_tokens, net_sums};
 use net_values::{FlatNet, Vector};
 
 /// Whether the condition of a flow holds. The vector is scratch.

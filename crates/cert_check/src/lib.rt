@@ -8,7 +8,6 @@ mod laws;
 mod line_checks;
 mod marked_traps;
 mod scratch;
-mod tokens;
 mod tree;
 mod walk;
 mod walk_moves;

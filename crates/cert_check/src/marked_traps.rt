@@ -1,7 +1,6 @@
 ghost use Rattle.std.specs.Prelude.{◌≡◌, ℕ, ◌<◌, ◌↔◌, IsTrue, IfErr, MatchBool, OnOk, All, length};
 ghost use Rattle.net_values.specs.FlatNets.{net_of};
 ghost use Rattle.net_values.specs.PlaceSets.{has};
-ghost use Rattle.closed_sets.specs.Commoner.{HasMarkedTrap, IsMarked};
 ghost use Rattle.certificates.specs.Conditions.{BadSiphonHolds, IsAccepted, IsFalseLine, is_listed};
 ghost use Rattle.certificates.specs.WellFormed.{ArePlaces};
 ghost use Rattle.certificates.specs.declared.certificate.Certificate.{Certificate};
@@ -11,7 +10,7 @@ use crate::line_checks::Rejected;
 use crate::walk::Walk;
 use crate::walk_moves::clear;
 use certificates::PlaceList;
-use closed_sets::{greatest_trap, is_siphon};
+use closed_sets::{has_marked_trap, is_siphon};
 use net_values::{FlatNet, PlaceSet};
 
 /// Checks the line of a siphon without a marked trap.
@@ -60,30 +59,4 @@ fn list(places: &[u32], set: &mut PlaceSet)
     for place in places {
         set.insert(*place as usize);
     }
-}
-
-/// Whether the set contains a trap that is marked at the initial marking. It does where the greatest trap in
-/// it is marked, which the scratch set then holds.
-pub fn has_marked_trap(net: &FlatNet, set: &PlaceSet, scratch: &mut PlaceSet) -> bool
-    requires set { length set.now ≡ (net_of net.now).places }
-    requires scratch { length scratch.old ≡ (net_of net.now).places }
-    ensures exact { IsTrue result ↔ HasMarkedTrap (net_of net.now) (has set.now) }
-    ensures size { length scratch.new ≡ length scratch.old }
-{
-    scratch.copy_from(set);
-    greatest_trap(net, scratch);
-    is_marked(net, scratch)
-}
-
-/// Whether a place of the set has a token at the initial marking.
-fn is_marked(net: &FlatNet, set: &PlaceSet) -> bool
-    requires { length set.now ≡ (net_of net.now).places }
-    ensures { IsTrue result ↔ IsMarked (net_of net.now) (net_of net.now).initial (has set.now) }
-{
-    for p in 0..net.places() {
-        if set.contains(p) && net.initial(p) > 0 {
-            return true;
-        }
-    }
-    false
 }

@@ -6,10 +6,10 @@ ghost use Rattle.certificates.specs.declared.certificate.Certificate.{Certificat
 ghost use Rattle.cert_check.specs.Walks.{HasSizes, IsAt, IsLeft, class_now, pending_now};
 
 use crate::line_checks::Rejected;
-use crate::marked_traps::has_marked_trap;
 use crate::walk::Walk;
 use crate::walk_moves::{advance, begin, is_empty_class, split};
 use certificates::{TreeLine, TreeLines};
+use closed_sets::has_marked_trap;
 use net_values::FlatNet;
 
 /// Checks the lines of a tree, each at its class.

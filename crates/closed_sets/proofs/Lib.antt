@@ -8,3 +8,4 @@ pub mod Passes
 pub mod SmallerSiphons
 pub mod Traps
 pub mod Unions
+pub mod MarkedTraps

@@ -6,6 +6,7 @@ mod closed;
 mod greatest;
 mod kind;
 mod laws;
+mod marked;
 mod minimal;
 #[cfg(test)]
 mod tests;
@@ -17,4 +18,5 @@ pub use laws::{
     empty_siphons_stay_empty, minimal_siphons_are_in_all, traps_are_siphons_reversed,
     traps_stay_marked, unions_of_siphons_are_siphons,
 };
+pub use marked::has_marked_trap;
 pub use minimal::is_minimal_siphon;

@@ -9,9 +9,11 @@ mod side;
 mod sparse;
 #[cfg(test)]
 mod tests;
+mod tokens;
 mod wide_sum;
 
 pub use flat_sums::net_sums;
 pub use incidence::Incidence;
 pub use laws::{semiflows_bound_places, weighted_tokens_stay};
+pub use tokens::initial_tokens;
 pub use wide_sum::{WideSum, add_product};

@@ -1,5 +1,4 @@
--- A set contains a marked trap exactly where the greatest trap in it is marked. Every nonempty siphon has a
--- listed one in it, so it is enough that each of these contains a marked trap.
+-- Every nonempty siphon has a listed one in it, so it is enough that each of these contains a marked trap.
 use Rattle.std.proofs.Common.{◌≡◌, ◌∙◌, sym, subst, false, arith, ℕ, ◌<◌, ◌≤◌, List, [], Bool, IsTrue, length, get_or, ◌↔◌}
 use Rattle.std.proofs.lemmas.Bool.{false≢true}
 use Rattle.std.proofs.lemmas.List.{get_or_default}
@@ -8,23 +7,10 @@ use Rattle.std.specs.Ordering.{bool_cmp}
 use Rattle.net_values.specs.Net.{Net}
 use Rattle.net_values.specs.PlaceSets.{has}
 use Rattle.net_values.specs.TheList.{IsTheList}
-use Rattle.closed_sets.specs.ClosedSets.{IsWithin, IsGreatestTrap}
-use Rattle.closed_sets.specs.Commoner.{IsMarked, HasMarkedTrap, MeetsCommoner}
+use Rattle.closed_sets.specs.ClosedSets.{IsWithin}
+use Rattle.closed_sets.specs.Commoner.{HasMarkedTrap, MeetsCommoner}
 use Rattle.closed_sets.specs.MinimalSets.{IsMinimalSet}
-use Rattle.closed_sets.proofs.Below.{pair_at, pair_from}
 use Rattle.closed_sets.proofs.Covers.{covers}
-
--- a set with a marked set in it is marked
-marked_within : (net : Net) (M : ℕ → ℕ) (Q S : ℕ → Bool) → IsWithin net Q S → IsMarked net M Q → IsMarked net M S
-marked_within net M Q S within marked =
-    let at = pair_from net.places Q M marked in
-    pair_at net.places S M at.0 at.1 (within at.0 at.1 at.2) at.3
-
-pub greatest_marked : (net : Net) (S G : ℕ → Bool) (marked : Bool) → IsGreatestTrap net S G → IsTrue marked ↔ IsMarked net net.initial G → IsTrue marked ↔ HasMarkedTrap net S
-greatest_marked net S G marked greatest decides = (
-  λ holds. record { trap = G; closed = greatest.trap; within = greatest.within; marked = decides.0 holds },
-  λ some. decides.1 (marked_within net net.initial some.trap G (greatest.greatest some.trap some.closed some.within) some.marked),
-)
 
 -- a set with a trap in a part of it has the trap in it
 wider : (net : Net) (S U : ℕ → Bool) → IsWithin net S U → HasMarkedTrap net S → HasMarkedTrap net U

@@ -2,8 +2,8 @@ use Rattle.std.proofs.Common.{subst, List, Bool}
 use Rattle.net_values.specs.FlatNets.{net_of}
 use Rattle.net_values.specs.PlaceSets.{has}
 use Rattle.closed_sets.specs.ClosedSets.{IsGreatestTrap}
-use Rattle.cert_check.proofs.MarkedTraps.{greatest_marked}
-use Rattle.cert_check.proofs.marked_traps.has_marked_trap.Goals as goal
+use Rattle.closed_sets.proofs.MarkedTraps.{greatest_marked}
+use Rattle.closed_sets.proofs.marked.has_marked_trap.Goals as goal
 
 pub returns-clause-exact : goal.returns-clause-exact
 returns-clause-exact c =

@@ -3,7 +3,7 @@ use Rattle.std.proofs.Common.{◌*◌, slice_index, refl, rules}
 use Rattle.std.proofs.lemmas.Result.{err_from_is_err_and}
 use Rattle.net_values.specs.FlatNets.{net_of}
 use Rattle.incidence.proofs.Below.{below_part, narrow_part}
-use Rattle.bounds.proofs.tokens.initial_tokens.Goals as goal
+use Rattle.incidence.proofs.tokens.initial_tokens.Goals as goal
 
 pub returns-in_err-total : goal.returns-in_err-total
 returns-in_err-total c =

@@ -3,7 +3,7 @@ use Rattle.std.proofs.lemmas.Bool.{false≢true, both_ways}
 use Rattle.net_values.specs.FlatNets.{net_of}
 use Rattle.net_values.specs.PlaceSets.{has}
 use Rattle.closed_sets.proofs.Below.{pair_at, any_from}
-use Rattle.cert_check.proofs.marked_traps.is_marked.Goals as goal
+use Rattle.closed_sets.proofs.marked.is_marked.Goals as goal
 
 pub returns-then-initial-gt0 : goal.returns-then-initial-gt0
 returns-then-initial-gt0 c =

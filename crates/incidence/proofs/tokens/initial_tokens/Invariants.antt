@@ -2,7 +2,7 @@
 use Rattle.std.proofs.Common.{◌≡◌, ◌*◌, ◌<◌, ◌^◌, slice_index}
 use Rattle.net_values.specs.FlatNets.{net_of}
 use Rattle.incidence.specs.Sums.{sum_below}
-use Rattle.bounds.proofs.tokens.initial_tokens.Given as goal
+use Rattle.incidence.proofs.tokens.initial_tokens.Given as goal
 
 abbrev pub invariant-loop-p : goal.invariant-loop-p
 invariant-loop-p l =

@@ -1,7 +1,7 @@
 use Rattle.std.proofs.Common.{◌≡◌, ℕ, ◌<◌, ◌&&◌, false, ltb}
 use Rattle.net_values.specs.FlatNets.{net_of}
 use Rattle.net_values.specs.PlaceSets.{has}
-use Rattle.net_class.proofs.verdict.is_marked.Given as goal
+use Rattle.closed_sets.proofs.marked.is_marked.Given as goal
 
 abbrev pub invariant-loop-p : goal.invariant-loop-p
 invariant-loop-p l = (q : ℕ) → q < l.p → (has l.set q && ltb 0 ((net_of l.net).initial q)) ≡ false

@@ -2,7 +2,7 @@ ghost use Rattle.std.specs.Prelude.{◌≡◌, ◌+◌, ◌*◌, ◌<◌, ◌^�
 ghost use Rattle.net_values.specs.FlatNets.{net_of};
 ghost use Rattle.incidence.specs.Invariance.{weighted_tokens};
 
-use incidence::{WideSum, add_product};
+use crate::wide_sum::{WideSum, add_product};
 use net_values::FlatNet;
 
 /// The tokens of the initial marking, those of each place counted as many times as its factor says.
