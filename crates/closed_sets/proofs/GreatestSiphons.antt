@@ -3,7 +3,7 @@
 use Rattle.std.proofs.Common.{◌≡◌, ap, ℕ, zero, suc, ◌<◌, ◌&&◌, Bool, false, IsTrue, not, ltb, inl, inr, arith}
 use Rattle.std.proofs.lemmas.Bool.{ltb-true, lt-ltb, and_from, and_parts, both_ways, cases_Bool, not-true, not_from_false}
 use Rattle.net_values.specs.Net.{Net}
-use Rattle.closed_sets.specs.ClosedSets.{has_input_in, has_output_in, IsSiphon, IsWithin, IsGreatestSiphon, EachSetHasGreatest}
+use Rattle.closed_sets.specs.ClosedSets.{has_input_in, has_output_in, IsSiphon, IsWithin, IsGreatestSiphon, EachSetHasGreatest, OnePlaceLess}
 use Rattle.closed_sets.specs.Growth.{is_open}
 use Rattle.closed_sets.proofs.Below.{pair_at, pair_from}
 use Rattle.closed_sets.proofs.Firsts.{first_of}
@@ -57,3 +57,15 @@ greatest_in (suc steps) net U few =
 
 pub greatest_there : (net : Net) → EachSetHasGreatest net
 greatest_there net U = greatest_in (suc (outside net.places (λ p. not (U p)))) net U (omega arith)
+
+-- what is left of the greatest siphon where a place is taken out of the set
+pub one_place_less : (net : Net) → OnePlaceLess net
+one_place_less net U G H p greatest left = record {
+  siphon = left.siphon;
+  within = λ q here member.
+      let parts = and_parts (G q) _ (left.within q here member) in
+      and_from (U q) _ (greatest.within q here parts.0) parts.1;
+  greatest = λ S siphon within. left.greatest S siphon (λ q here member.
+      let parts = and_parts (U q) _ (within q here member) in
+      and_from (G q) _ (greatest.greatest S siphon (λ r below inside. (and_parts (U r) _ (within r below inside)).0) q here member) parts.1);
+}

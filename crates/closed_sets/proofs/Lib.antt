@@ -1,4 +1,6 @@
 pub mod Below
+pub mod Fed
+pub mod Falling
 pub mod Firing
 pub mod Firsts
 pub mod GreatestSiphons

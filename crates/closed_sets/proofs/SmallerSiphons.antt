@@ -1,11 +1,13 @@
 -- A smaller nonempty siphon in a set lacks one of its places, and then lies in the greatest siphon of the
 -- set without that place. So a nonempty siphon is minimal exactly where each of these is empty.
 use Rattle.std.proofs.Common.{◌≡◌, ◌≢◌, ◌↔◌, sym, subst, ◌∙◌, ℕ, ◌<◌, List, Bool, false, IsTrue, length, set, not, inl, inr, arith}
-use Rattle.std.proofs.lemmas.Bool.{cases_lt, cases_eq, both_ways, cases_Bool, not-true, not_from_false}
+use Rattle.std.proofs.lemmas.Bool.{cases_lt, cases_eq, both_ways, cases_Bool, ltb-true, not-true, not_from_false}
 use Rattle.std.proofs.lemmas.List.{get_or_past, get_or-set_same, get_or-set_other}
 use Rattle.net_values.specs.Net.{Net}
 use Rattle.net_values.specs.PlaceSets.{has, IsEmpty}
 use Rattle.closed_sets.specs.ClosedSets.{any_below, IsSiphon, IsWithin, IsNonempty, IsGreatestSiphon, IsMinimalSiphon, HasSiphonWithout}
+use Rattle.closed_sets.specs.declared.guard.Guard.TheVariants.{Below}
+use Rattle.closed_sets.specs.Falling.{LosesGuarded}
 use Rattle.closed_sets.proofs.Below.{any_from, none_at}
 
 -- a set that isn't empty has a place
@@ -72,3 +74,22 @@ minimal_from net S siphon nonempty none = record {
 pub minimal_without : (net : Net) (S : ℕ → Bool) (p : ℕ) → p < net.places → IsTrue (S p) → HasSiphonWithout net S p → IsMinimalSiphon net S → ⊥
 minimal_without net S p below member smaller minimal =
     both_ways (smaller.0 p) (not-true (smaller.0 p) smaller.4) (minimal.least smaller.0 smaller.1 smaller.2 smaller.3 p below member)
+
+-- where each siphon in the set that lacks the one place lacks a place that none lacks, none lacks the one place
+pub none_without : (net : Net) (members : List Bool) (p q : ℕ) → length members ≡ net.places → p < net.places → IsTrue (has (set members p false) q) → ((S : ℕ → Bool) → IsSiphon net S → IsWithin net S (has (set members p false)) → S q ≡ false) → (HasSiphonWithout net (has members) q → ⊥) → HasSiphonWithout net (has members) p → ⊥
+none_without net members p q size below member lost none smaller =
+    let R = smaller.0 in
+    let inside : IsWithin net R (has (set members p false)) =
+    λ k here there. elim (cases_eq k p) [
+      | inl same ↦ absurd (both_ways (R p) (not-true (R p) smaller.4) (subst (λ x. IsTrue (R x)) same there))
+      | inr other ↦ get_or-set_other members p k false false other ∙ smaller.3 k here there
+    ] in
+    none (R, smaller.1, smaller.2, smaller.3, not_from_false (R q) (lost R smaller.1 inside))
+
+-- where a lower place of the set falls without the place, no nonempty siphon lacks the place
+pub none_guarded : (net : Net) (members : List Bool) (p : ℕ) → length members ≡ net.places → p < net.places → LosesGuarded net (Below p) (set members p false) → ((q : ℕ) → q < p → IsTrue (has members q) → HasSiphonWithout net (has members) q → ⊥) → HasSiphonWithout net (has members) p → ⊥
+none_guarded net members p size below loses lower =
+    let q = loses.place in
+    let less : q < p = ltb-true q p loses.guarded in
+    let inside : IsTrue (has members q) = sym (get_or-set_other members p q false false (λ same. omega arith)) ∙ loses.member in
+    none_without net members p q size below loses.member loses.lost (lower q less inside)

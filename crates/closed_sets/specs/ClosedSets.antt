@@ -1,7 +1,7 @@
 -- Siphons and traps of a place/transition net (T. Murata, Petri nets: properties, analysis and
 -- applications, Proceedings of the IEEE 77, 1989). A set of places is a test of place numbers; what it
 -- answers past the places of the net doesn't count. The empty set is both a siphon and a trap.
-use Rattle.std.specs.Prelude.{ℕ, zero, suc, ◌<◌, Bool, false, IsTrue, ◌&&◌, ◌||◌, not, nat_lt}
+use Rattle.std.specs.Prelude.{ℕ, zero, suc, ◌<◌, ◌==◌, Bool, false, IsTrue, ◌&&◌, ◌||◌, not, nat_lt}
 use Rattle.net_values.specs.Net.{Net}
 
 -- some number below the bound passes the test
@@ -20,6 +20,10 @@ has_output_in net S t = any_below net.places (λ p. S p && nat_lt 0 (net.post p 
 -- each transition with an output place in the set has an input place in it
 abbrev pub IsSiphon : Net → (ℕ → Bool) → Type 0
 IsSiphon net S = (t : ℕ) → t < net.transitions → IsTrue (has_output_in net S t) → IsTrue (has_input_in net S t)
+
+-- each transition that gives to the place has an input place in the set
+abbrev pub IsFed : Net → (ℕ → Bool) → ℕ → Type 0
+IsFed net S p = (t : ℕ) → t < net.transitions → 0 < net.post p t → IsTrue (has_input_in net S t)
 
 -- each transition with an input place in the set has an output place in it
 abbrev pub IsTrap : Net → (ℕ → Bool) → Type 0
@@ -42,6 +46,10 @@ pub record IsGreatestSiphon (net : Net) (U G : ℕ → Bool) : Type 0 where
 -- each set has a greatest siphon in it
 abbrev pub EachSetHasGreatest : Net → Type 0
 EachSetHasGreatest net = (U : ℕ → Bool) → (G : ℕ → Bool) × IsGreatestSiphon net U G
+
+-- the greatest siphon in a set stays the greatest one where a place is taken out of both
+abbrev pub OnePlaceLess : Net → Type 0
+OnePlaceLess net = (U G H : ℕ → Bool) (p : ℕ) → IsGreatestSiphon net U G → IsGreatestSiphon net (λ q. G q && not (q == p)) H → IsGreatestSiphon net (λ q. U q && not (q == p)) H
 
 -- the greatest trap in a set
 pub record IsGreatestTrap (net : Net) (U G : ℕ → Bool) : Type 0 where

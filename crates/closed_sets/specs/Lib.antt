@@ -5,3 +5,6 @@ pub mod Growth
 pub mod Commoner
 pub mod Kinds
 pub mod Passes
+pub mod Guards
+pub mod Falling
+pub mod Kept

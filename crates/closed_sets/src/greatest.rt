@@ -1,13 +1,17 @@
-ghost use Rattle.std.specs.Prelude.{◌≡◌, ℕ, ◌<◌, ◌==◌, ◌&&◌, All, MatchBool, length, not};
-ghost use Rattle.std.specs.List.{list_any};
+ghost use Rattle.std.specs.Prelude.{◌≡◌, [], MatchBool, false, length, slice_set};
 ghost use Rattle.net_values.specs.FlatNets.{net_of};
 ghost use Rattle.net_values.specs.PlaceSets.{has};
-ghost use Rattle.closed_sets.specs.ClosedSets.{IsGreatestSiphon, IsGreatestTrap};
+ghost use Rattle.closed_sets.specs.ClosedSets.{IsGreatestSiphon, IsGreatestTrap, IsSiphon};
+ghost use Rattle.closed_sets.specs.Falling.{IsFalling, Settles, LosesGuarded};
+ghost use Rattle.closed_sets.specs.Kept.{KeepsWithout, LosesWithout};
 ghost use Rattle.closed_sets.specs.Kinds.{seen_as};
-ghost use Rattle.closed_sets.specs.Passes.{Shrinks, IsFewer, IsSettled, IsSettledAt};
+ghost use Rattle.closed_sets.specs.declared.guard.Guard.TheVariants.{Nothing};
 
+use crate::fallen::Fallen;
+use crate::guard::Guard;
 use crate::kind::Kind;
-use net_values::{FlatNet, PlaceSet, WeightedPlace};
+use crate::propagate::{close_all, propagate};
+use net_values::{FlatNet, PlaceSet};
 
 /// Leaves the greatest siphon in the set: the siphon in it that contains every siphon in it.
 pub fn greatest_siphon(net: &FlatNet, set: &mut PlaceSet)
@@ -27,62 +31,74 @@ pub fn greatest_trap(net: &FlatNet, set: &mut PlaceSet)
     greatest(Kind::Trap, net, set);
 }
 
-/// Leaves the greatest siphon of the net as it is seen. Each pass but the last takes a place away, and looks
-/// at each arc twice.
+/// Takes place `p` out of a siphon, where it is in it, and leaves the greatest siphon in the rest. Only the
+/// transitions that the places that fall were input places of are looked at.
+pub fn greatest_siphon_without(net: &FlatNet, set: &mut PlaceSet, p: usize)
+    requires size { length set.old ≡ (net_of net.now).places }
+    requires siphon { IsSiphon (net_of net.now) (has set.old) }
+    ensures size { length set.new ≡ length set.old }
+    ensures greatest { IsGreatestSiphon (net_of net.now) (has (slice_set set.old p false)) (has set.new) }
+{
+    leave_out(net, set, p, &mut Fallen::none(), Guard::Nothing);
+}
+
+/// Takes place `p` out of a siphon, and leaves the greatest siphon in the rest where that has every place of
+/// the other set that is left. Else it tells `false` as soon as one of them has fallen, and what the set holds
+/// then is lost.
+pub fn keeps_without(net: &FlatNet, set: &mut PlaceSet, p: usize, kept: &PlaceSet) -> bool
+    requires size { length set.old ≡ (net_of net.now).places }
+    requires siphon { IsSiphon (net_of net.now) (has set.old) }
+    ensures size { length set.new ≡ length set.old }
+    ensures left { MatchBool result (KeepsWithout (net_of net.now) kept.now p set.old set.new)
+        (LosesWithout (net_of net.now) kept.now p set.old) }
+{
+    leave_out(net, set, p, &mut Fallen::none(), Guard::Members(kept))
+}
+
+/// Takes place `p` out of a siphon, and leaves the greatest siphon in the rest. Gives up, with `false`, where
+/// a guarded place would fall.
+pub(crate) fn leave_out(
+    net: &FlatNet,
+    set: &mut PlaceSet,
+    p: usize,
+    fallen: &mut Fallen,
+    guard: Guard<'_>,
+) -> bool
+    requires size { length set.old ≡ (net_of net.now).places }
+    requires siphon { IsSiphon (net_of net.now) (has set.old) }
+    ensures size { length set.new ≡ length set.old }
+    ensures left { MatchBool result (Settles (net_of net.now) guard.entry (slice_set set.old p false) set.new)
+        (LosesGuarded (net_of net.now) guard.entry (slice_set set.old p false)) }
+{
+    if p >= net.places() || !set.contains(p) {
+        return true;
+    }
+    set.remove(p);
+    fallen.clear();
+    fallen.push(p);
+    propagate(Kind::Siphon, net, set, fallen, guard)
+}
+
+/// Leaves the greatest siphon of the net as it is seen.
 fn greatest(kind: Kind, net: &FlatNet, set: &mut PlaceSet)
     requires { length set.old ≡ (net_of net.now).places }
     ensures size { length set.new ≡ length set.old }
     ensures greatest { IsGreatestSiphon (seen_as kind (net_of net.now)) (has set.old) (has set.new) }
 {
-    'passes: while pass(kind, net, set) {}
+    let mut fallen = Fallen::none();
+    look(kind, net, set, &mut fallen);
+    propagate(kind, net, set, &mut fallen, Guard::Nothing);
 }
 
-/// Closes the set at each transition, upwards and downwards at once, so that a chain of places goes in one
-/// pass whichever way it runs. Tells whether places were taken away.
-fn pass(kind: Kind, net: &FlatNet, set: &mut PlaceSet) -> bool
-    requires { length set.old ≡ (net_of net.now).places }
-    ensures size { length set.new ≡ length set.old }
-    ensures shrinks { Shrinks (seen_as kind (net_of net.now)) (has set.old) (has set.new) }
-    ensures taken { MatchBool result (IsFewer set.old set.new)
-        (IsSettled (seen_as kind (net_of net.now)) set.old set.new (net_of net.now).transitions) }
-{
-    let mut taken = false;
-    let count = net.transitions();
-    for t in 0..count {
-        if close(kind, net, set, count - 1 - t) {
-            taken = true;
-        }
-        if close(kind, net, set, t) {
-            taken = true;
-        }
-    }
-    taken
-}
-
-/// Takes the output places of transition `t` away where it has no input place in the set. Tells whether
-/// there was one.
-fn close(kind: Kind, net: &FlatNet, set: &mut PlaceSet, t: usize) -> bool
+/// Closes the set at each transition that has an output place in it.
+fn look(kind: Kind, net: &FlatNet, set: &mut PlaceSet, fallen: &mut Fallen)
     requires size { length set.old ≡ (net_of net.now).places }
-    requires transition { t < (net_of net.now).transitions }
-    ensures size { length set.new ≡ length set.old }
-    ensures shrinks { Shrinks (seen_as kind (net_of net.now)) (has set.old) (has set.new) }
-    ensures taken { MatchBool result (IsFewer set.old set.new)
-        (IsSettledAt (seen_as kind (net_of net.now)) set.old set.new t) }
+    requires none { fallen.old ≡ [] }
+    ensures { IsFalling (seen_as kind (net_of net.now)) Nothing set.old set.new fallen.new }
 {
-    if !kind.is_open(net, set, t) {
-        return false;
-    }
-    take_out(kind.outputs(net, t), set);
-    true
-}
-
-/// Takes the places of the entries out of the set.
-fn take_out(entries: &[WeightedPlace], set: &mut PlaceSet)
-    requires { All (λ entry. entry.place < length set.old) entries.now }
-    ensures size { length set.new ≡ length set.old }
-    ensures left { (p : ℕ) → has set.new p ≡ (has set.old p && not (list_any (λ entry. entry.place == p) entries.now)) }
-{
-    for entry in entries {
-        set.remove(entry.place);
+    for p in 0..net.places() {
+        if set.contains(p) {
+            close_all(kind, net, set, fallen, kind.givers(net, p), Guard::Nothing);
+        }
     }
 }

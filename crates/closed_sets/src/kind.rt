@@ -2,6 +2,7 @@ ghost use Rattle.std.specs.Prelude.{◌≡◌, ◌<◌, All, length};
 ghost use Rattle.std.specs.List.{list_any};
 ghost use Rattle.net_values.specs.Columns.{Lists};
 ghost use Rattle.net_values.specs.FlatNets.{net_of};
+ghost use Rattle.net_values.specs.PlaceArcs.{ListsPositive};
 ghost use Rattle.net_values.specs.PlaceSets.{has};
 ghost use Rattle.closed_sets.specs.Growth.{is_open};
 ghost use Rattle.closed_sets.specs.Kinds.{seen_as};
@@ -39,6 +40,30 @@ impl Kind {
         }
     }
 
+    /// The transitions that have place `p` as an input place; for traps as an output place.
+    pub(crate) fn takers<'a>(self, net: &'a FlatNet, p: usize) -> &'a [usize]
+        requires { p < (net_of net.now).places }
+        ensures lists { ListsPositive (λ t. (seen_as self (net_of net.now)).pre p t) result.now }
+        ensures within { All (λ t. t < (net_of net.now).transitions) result.now }
+    {
+        match self {
+            Kind::Siphon => net.takers(p),
+            Kind::Trap => net.givers(p),
+        }
+    }
+
+    /// The transitions that have place `p` as an output place; for traps as an input place.
+    pub(crate) fn givers<'a>(self, net: &'a FlatNet, p: usize) -> &'a [usize]
+        requires { p < (net_of net.now).places }
+        ensures lists { ListsPositive (λ t. (seen_as self (net_of net.now)).post p t) result.now }
+        ensures within { All (λ t. t < (net_of net.now).transitions) result.now }
+    {
+        match self {
+            Kind::Siphon => net.givers(p),
+            Kind::Trap => net.takers(p),
+        }
+    }
+
     /// Whether transition `t` has an output place in the set and no input place in it.
     pub(crate) fn is_open(self, net: &FlatNet, set: &PlaceSet, t: usize) -> bool
         requires size { length set.now ≡ (net_of net.now).places }
@@ -50,7 +75,7 @@ impl Kind {
 }
 
 /// Whether the place of an entry is in the set.
-fn meets(entries: &[WeightedPlace], set: &PlaceSet) -> bool
+pub(crate) fn meets(entries: &[WeightedPlace], set: &PlaceSet) -> bool
     requires { All (λ entry. entry.place < length set.now) entries.now }
     ensures { result ≡ list_any (λ entry. has set.now entry.place) entries.now }
 {

@@ -1,6 +1,6 @@
 ghost use Rattle.std.specs.Prelude.{◌||◌, ℕ, Bool};
 ghost use Rattle.net_values.specs.Net.{Net};
-ghost use Rattle.closed_sets.specs.ClosedSets.{EachSetHasGreatest, IsSiphon};
+ghost use Rattle.closed_sets.specs.ClosedSets.{EachSetHasGreatest, IsSiphon, OnePlaceLess};
 ghost use Rattle.closed_sets.specs.MinimalSets.{MinimalSetsCover};
 ghost use Rattle.closed_sets.specs.Commoner.{CommonerExcludesDead, DeadEmptiesASiphon, EmptySiphonsStayEmpty, TrapsStayMarked};
 ghost use Rattle.closed_sets.specs.Growth.{TrapsAreSiphonsReversed};
@@ -13,6 +13,12 @@ pub fn unions_of_siphons_are_siphons()
 /// Each set has a greatest siphon in it.
 pub fn each_set_has_a_greatest_siphon()
     ensures { (net : Net) → EachSetHasGreatest net }
+{}
+
+/// The greatest siphon in a set without one place more is the greatest one in what the place leaves of the
+/// greatest siphon of the set.
+pub fn one_place_less_is_left_of_the_greatest()
+    ensures { (net : Net) → OnePlaceLess net }
 {}
 
 /// The traps of a net are the siphons of the net with every arc turned round, and so are the minimal and the

@@ -3,20 +3,23 @@
 #![tactic(auto)]
 
 mod closed;
+mod fallen;
 mod greatest;
+mod guard;
 mod kind;
 mod laws;
 mod marked;
 mod minimal;
+mod propagate;
 #[cfg(test)]
 mod tests;
 
 pub use closed::{first_open_transition, is_siphon, is_trap};
-pub use greatest::{greatest_siphon, greatest_trap};
+pub use greatest::{greatest_siphon, greatest_siphon_without, greatest_trap, keeps_without};
 pub use laws::{
     commoner_excludes_dead_markings, dead_markings_empty_a_siphon, each_set_has_a_greatest_siphon,
-    empty_siphons_stay_empty, minimal_siphons_are_in_all, traps_are_siphons_reversed,
-    traps_stay_marked, unions_of_siphons_are_siphons,
+    empty_siphons_stay_empty, minimal_siphons_are_in_all, one_place_less_is_left_of_the_greatest,
+    traps_are_siphons_reversed, traps_stay_marked, unions_of_siphons_are_siphons,
 };
 pub use marked::has_marked_trap;
 pub use minimal::is_minimal_siphon;

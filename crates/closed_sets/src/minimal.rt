@@ -1,10 +1,12 @@
-ghost use Rattle.std.specs.Prelude.{◌≡◌, ◌<◌, ◌↔◌, IsTrue, length};
+ghost use Rattle.std.specs.Prelude.{◌≡◌, ℕ, ◌<◌, ◌↔◌, IsTrue, length};
 ghost use Rattle.net_values.specs.FlatNets.{net_of};
 ghost use Rattle.net_values.specs.PlaceSets.{has};
-ghost use Rattle.closed_sets.specs.ClosedSets.{IsMinimalSiphon, HasSiphonWithout};
+ghost use Rattle.closed_sets.specs.ClosedSets.{IsMinimalSiphon, IsSiphon, HasSiphonWithout};
 
 use crate::closed::is_siphon;
-use crate::greatest::greatest_siphon;
+use crate::fallen::Fallen;
+use crate::greatest::leave_out;
+use crate::guard::Guard;
 use net_values::{FlatNet, PlaceSet};
 
 /// Whether the set is a nonempty siphon that has no smaller nonempty siphon in it. What the scratch set
@@ -18,24 +20,32 @@ pub fn is_minimal_siphon(net: &FlatNet, set: &PlaceSet, scratch: &mut PlaceSet) 
     if set.is_empty() || !is_siphon(net, set) {
         return false;
     }
+    let mut fallen = Fallen::none();
     for p in 0..net.places() {
-        if set.contains(p) && has_siphon_without(net, set, p, scratch) {
+        if set.contains(p) && has_siphon_without(net, set, p, scratch, &mut fallen) {
             return false;
         }
     }
     true
 }
 
-/// Whether a nonempty siphon in the set lacks place `p`.
-fn has_siphon_without(net: &FlatNet, set: &PlaceSet, p: usize, scratch: &mut PlaceSet) -> bool
+/// Whether a nonempty siphon in the siphon lacks place `p`, where none lacks a lower place of it. So none does
+/// as soon as a lower place falls.
+fn has_siphon_without(
+    net: &FlatNet,
+    set: &PlaceSet,
+    p: usize,
+    scratch: &mut PlaceSet,
+    fallen: &mut Fallen,
+) -> bool
     requires set { length set.now ≡ (net_of net.now).places }
     requires scratch { length scratch.old ≡ (net_of net.now).places }
     requires place { p < (net_of net.now).places }
+    requires siphon { IsSiphon (net_of net.now) (has set.now) }
+    requires lower { (q : ℕ) → q < p → IsTrue (has set.now q) → HasSiphonWithout (net_of net.now) (has set.now) q → ⊥ }
     ensures exact { IsTrue result ↔ HasSiphonWithout (net_of net.now) (has set.now) p }
     ensures size { length scratch.new ≡ length scratch.old }
 {
     scratch.copy_from(set);
-    scratch.remove(p);
-    greatest_siphon(net, scratch);
-    !scratch.is_empty()
+    leave_out(net, scratch, p, fallen, Guard::Below(p)) && !scratch.is_empty()
 }

@@ -66,3 +66,30 @@ fn greatest_closed_sets_of_a_line(rt: HostRuntime) -> Result<(), Fail> {
     }
     Ok(())
 }
+
+/// A place that is taken out of all places of the line, what is left then, a set that has to stay, and whether
+/// it does.
+type WithoutRow = (usize, &'static [usize], &'static [usize], bool);
+
+const WITHOUT: [WithoutRow; 3] = [
+    (1, &[0], &[0], true),
+    (0, &[], &[1], false),
+    (7, &[0, 1], &[0, 1], true),
+];
+
+#[test]
+fn siphons_of_a_line_without_a_place(rt: HostRuntime) -> Result<(), Fail> {
+    let alloc = rt.alloc();
+    let line = net_with(alloc, &[0; 2], 1, LINE)?;
+    for (place, left, kept, stay) in &WITHOUT {
+        let mut set = place_set(alloc, 2, &[0, 1])?;
+        let mut other = set.copy(alloc)?;
+        let kept = place_set(alloc, 2, kept)?;
+        assert!(rt; line.places() == set.size() && line.places() == other.size());
+        assert!(rt; is_siphon(&line, &set) && is_siphon(&line, &other));
+        greatest_siphon_without(&line, &mut set, *place);
+        assert!(rt; set == place_set(alloc, 2, left)?);
+        assert_eq!(rt; keeps_without(&line, &mut other, *place, &kept), *stay);
+    }
+    Ok(())
+}

@@ -1,8 +1,8 @@
 -- There is room, so the number is put where the search says that it belongs.
-use Rattle.std.proofs.Common.{◌≡◌, ℕ, ◌+◌, ◌<◌, List, subst, sym, vec_len, vec_capacity, rules, arith}
+use Rattle.std.proofs.Common.{◌≡◌, ℕ, List, subst, sym, rules}
 use Rattle.std.specs.List.{insert}
 use Rattle.net_values.specs.PlaceArcs.{IsAscending, HasOneMore}
-use Rattle.net_values.proofs.AscendingLists.{BelongsBefore, belongs_before, one_more_put, ascending_put}
+use Rattle.net_values.proofs.AscendingLists.{belongs_before, one_more_put, ascending_put}
 use Rattle.net_values.proofs.place_arcs.insert.Goals as goal
 
 pub returns-in-Err-clause-ascending : goal.returns-in-Err-clause-ascending

@@ -1,4 +1,3 @@
-use Rattle.std.proofs.Common.{◌≡◌, List, [], ◌∷◌, ◌++◌, subst, sym, rules}
 use Rattle.net_values.proofs.PlaceLists.{place_kept}
 use Rattle.net_values.proofs.flat_net.FlatNet.add_place.Goals as goal
 

@@ -1,0 +1,7 @@
+use Rattle.net_values.specs.FlatNets.{net_of}
+use Rattle.closed_sets.specs.Kinds.{seen_as}
+use Rattle.closed_sets.proofs.Falling.{IsLooked}
+use Rattle.closed_sets.proofs.greatest.look.Given as goal
+
+abbrev pub invariant-loop-p : goal.invariant-loop-p
+invariant-loop-p l = IsLooked (seen_as l.kind (net_of l.net)) l.fn.set l.set l.fallen l.p
