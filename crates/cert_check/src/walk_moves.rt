@@ -8,7 +8,7 @@ ghost use Rattle.cert_check.specs.Walks.{HasSizes, IsAt, IsLeft, Enters, Turns, 
 ghost use Rattle.cert_check.specs.Walks.{class_now, pending_now, except, level_at, saved_at};
 
 use crate::walk::{Level, Walk};
-use closed_sets::greatest_siphon;
+use closed_sets::{greatest_siphon, greatest_siphon_without};
 use net_values::{FlatNet, PlaceSet};
 
 /// Begins at the class of all siphons.
@@ -87,8 +87,7 @@ fn leave_out(net: &FlatNet, set: &mut PlaceSet, p: usize)
     ensures size { length set.new ≡ length set.old }
     ensures greatest { IsGreatestSiphon (net_of net.now) (except (has set.old) p) (has set.new) }
 {
-    set.remove(p);
-    greatest_siphon(net, set);
+    greatest_siphon_without(net, set, p);
 }
 
 /// Whether no nonempty siphon belongs to the class: the greatest siphon that avoids what it avoids is empty, or
