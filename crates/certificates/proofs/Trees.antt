@@ -1,7 +1,7 @@
 -- The conditions of a tree's lines, read from the front: the first line speaks of the first class that is left, and
 -- changes the classes for the lines after it. That every line's condition holds at its own class is the same, as
 -- long as no line lacks a class, which the count of trees excludes.
-use Rattle.std.proofs.Common.{◌≡◌, refl, sym, subst, ℕ, zero, suc, ◌<◌, List, [], ◌∷◌, length, take, arith}
+use Rattle.std.proofs.Common.{ℕ, zero, suc, ◌<◌, List, [], ◌∷◌, length, take, arith}
 use Rattle.std.specs.Prelude.{slice_index_or}
 use Rattle.net_values.specs.Net.{Net}
 use Rattle.certificates.specs.declared.certificate.TreeLine.{TreeLine}

@@ -1,7 +1,6 @@
 -- Well-formed certificates: numbers in their ranges, places in ascending order, and one tree.
 use Rattle.std.specs.Prelude.{◌≡◌, ℕ, zero, suc, ◌<◌, ◌≤◌, ◌^◌, ℤ, pos, negsuc, List, [], ◌∷◌, length, All, AllPairs}
 use Rattle.net_values.specs.declared.limits.TheConstants.{MAX_PLACES}
-use Rattle.certificates.specs.declared.certificate.BoundLines.{BoundLines}
 use Rattle.certificates.specs.declared.certificate.Certificate.{Certificate}
 use Rattle.certificates.specs.declared.certificate.Certificate.TheVariants.{Bounds, BadSiphon, Commoner}
 use Rattle.certificates.specs.declared.certificate.Claim.{Claim}

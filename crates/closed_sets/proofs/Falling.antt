@@ -1,10 +1,10 @@
 -- What falls out of a set together, one place after the other. A transition that isn't open is opened only
 -- where an input place falls, and that place is on the list then; so when the list is empty no transition is
 -- open, and the set is a siphon. No siphon in the set loses a place.
-use Rattle.std.proofs.Common.{◌≡◌, ◌≢◌, refl, sym, ap, ◌∙◌, subst, ℕ, ◌+◌, ◌<◌, ◌≤◌, ◌==◌, ◌&&◌, ◌||◌, List, [], ◌∷◌, ◌++◌, Bool, true, false, IsTrue, MatchBool, length, get_or, set, take, not, cond, eqb, ltb, inl, inr, Contains, length-set, arith}
+use Rattle.std.proofs.Common.{◌≡◌, ◌≢◌, refl, sym, ap, ◌∙◌, subst, ℕ, ◌+◌, ◌<◌, ◌≤◌, ◌==◌, ◌&&◌, ◌||◌, List, [], ◌∷◌, ◌++◌, Bool, true, false, IsTrue, MatchBool, length, get_or, set, take, not, cond, ltb, inl, inr, Contains, length-set, arith}
 use Rattle.std.specs.List.{list_any}
 use Rattle.std.proofs.Math.Bool.{and-false, or-false}
-use Rattle.std.proofs.lemmas.Bool.{cases_lt, cases_eq, true≢false, false≢true, eq-eqb, eqb-true, and_from, and_parts, both_ways, cases_Bool, not-true, not_from_false, lt-ltb, ltb-true, or_right}
+use Rattle.std.proofs.lemmas.Bool.{cases_lt, cases_eq, true≢false, false≢true, eq-eqb, eqb-true, and_from, and_parts, both_ways, cases_Bool, not-true, not_from_false, ltb-true, or_right}
 use Rattle.std.proofs.lemmas.List.{get_or-set_same, get_or-set_other, set-get_or, get_or_past, get_or_default, length_push, take_all}
 use Rattle.std.proofs.lemmas.List.Elements.{Contains-append_left, Contains-push, Contains-push_cases}
 use Rattle.std.proofs.lemmas.List.Folds.{list_any_at, list_any_more}

@@ -1,17 +1,14 @@
 -- What the entries of a transition tell of a set, what loses no siphon, and that a set without an open
 -- transition is a siphon.
-use Rattle.std.proofs.Common.{◌≡◌, refl, sym, ap, ◌∙◌, subst, ℕ, ◌+◌, zero, suc, ◌<◌, ◌≤◌, ◌==◌, ◌&&◌, List, [], ◌∷◌, Bool, true, false, IsTrue, MatchBool, MatchOption, Option, None, Some, is_some, ◌↔◌, length, get_or, not, ltb, cond, inl, inr, arith}
+use Rattle.std.proofs.Common.{◌≡◌, ap, ◌∙◌, subst, ℕ, ◌<◌, ◌==◌, ◌&&◌, List, Bool, false, IsTrue, get_or, not, ltb, inl, inr, arith}
 use Rattle.std.specs.List.{list_any}
-use Rattle.std.proofs.Math.Bool.{and-false}
-use Rattle.std.proofs.lemmas.Bool.{cases_eq, true≢false, false≢true, eq-eqb, eqb-true, and_from, and_parts, both_ways, cases_Bool, not-true, not_from_false}
-use Rattle.std.proofs.lemmas.List.Sums.{sum_by-cons}
+use Rattle.std.proofs.lemmas.Bool.{eq-eqb, eqb-true, and_from, and_parts, both_ways, cases_Bool, not-true, not_from_false}
 use Rattle.std.proofs.lemmas.List.Folds.{Any-from_list_any, list_any-from_Any}
 use Rattle.net_values.specs.declared.column.WeightedPlace.{WeightedPlace}
 use Rattle.net_values.specs.Columns.{Lists}
 use Rattle.net_values.specs.Net.{Net}
-use Rattle.net_values.specs.PlaceSets.{has}
-use Rattle.closed_sets.specs.ClosedSets.{any_below, has_input_in, has_output_in, IsSiphon, IsGreatestSiphon}
-use Rattle.closed_sets.specs.Growth.{is_open, IsFirst}
+use Rattle.closed_sets.specs.ClosedSets.{any_below, has_input_in, has_output_in, IsSiphon}
+use Rattle.closed_sets.specs.Growth.{is_open}
 use Rattle.closed_sets.specs.Passes.{Shrinks}
 use Rattle.closed_sets.proofs.Below.{same_bools, pair_at, pair_from}
 

@@ -1,7 +1,7 @@
 -- Places fall out of a set: a transition without an input place in the set takes its output places out, and
 -- each place that fell is looked at once for the transitions that it was an input place of. Sets are lists of
 -- truth values here, so that their members can be counted.
-use Rattle.std.specs.Prelude.{◌≡◌, ◌⊎◌, ℕ, ◌+◌, ◌<◌, ◌≤◌, ◌==◌, ◌&&◌, List, Bool, false, IsTrue, not, length, Contains, slice_index, slice_index_or}
+use Rattle.std.specs.Prelude.{◌≡◌, ◌⊎◌, ℕ, ◌+◌, ◌<◌, ◌≤◌, ◌==◌, ◌&&◌, List, Bool, false, IsTrue, not, length, Contains, slice_index}
 use Rattle.std.specs.List.{list_any}
 use Rattle.net_values.specs.declared.column.WeightedPlace.{WeightedPlace}
 use Rattle.net_values.specs.declared.limits.TheConstants.{MAX_PLACES}
