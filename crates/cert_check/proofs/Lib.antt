@@ -1,0 +1,13 @@
+pub mod Claims
+pub mod Counts
+pub mod Decisions
+pub mod EmptyClasses
+pub mod Lines
+pub mod MarkedTraps
+pub mod Matches
+pub mod Moves
+pub mod SiphonLines
+pub mod TreeSteps
+pub mod Vectors
+pub mod WalkAnswers
+pub mod WalkLaws

@@ -1,0 +1,148 @@
+ghost use Rattle.std.specs.Prelude.{◌≡◌, [], ◌∷◌, ℕ, ◌<◌, MatchBool, true, false, length};
+ghost use Rattle.net_values.specs.FlatNets.{net_of};
+ghost use Rattle.net_values.specs.PlaceSets.{has};
+ghost use Rattle.closed_sets.specs.ClosedSets.{IsGreatestSiphon, IsSiphon};
+ghost use Rattle.certificates.specs.Conditions.{TreeLineHolds, after_line, all_siphons};
+ghost use Rattle.certificates.specs.declared.certificate.TreeLine.{TreeLine};
+ghost use Rattle.cert_check.specs.Walks.{HasSizes, IsAt, IsLeft, Enters, Turns, Rises};
+ghost use Rattle.cert_check.specs.Walks.{class_now, pending_now, except, level_at, saved_at};
+
+use crate::walk::{Level, Walk};
+use closed_sets::greatest_siphon;
+use net_values::{FlatNet, PlaceSet};
+
+/// Begins at the class of all siphons.
+pub fn begin(net: &FlatNet, walk: &mut Walk)
+    requires { HasSizes (net_of net.now).places walk.old }
+    ensures { IsLeft (net_of net.now) walk.new (all_siphons ∷ []) }
+{
+    walk.depth = 0;
+    clear(&mut walk.contained);
+    clear(&mut walk.used);
+    fill(&mut walk.live);
+    greatest_siphon(net, &mut walk.live);
+}
+
+/// Takes every place out of the set.
+pub fn clear(set: &mut PlaceSet)
+    ensures size { length set.new ≡ length set.old }
+    ensures empty { (p : ℕ) → p < length set.old → has set.new p ≡ false }
+{
+    for p in 0..set.size() {
+        set.remove(p);
+    }
+}
+
+/// Puts every place into the set.
+fn fill(set: &mut PlaceSet)
+    ensures size { length set.new ≡ length set.old }
+    ensures full { (p : ℕ) → p < length set.old → has set.new p ≡ true }
+{
+    for p in 0..set.size() {
+        set.insert(p);
+    }
+}
+
+/// Parts the class at place `p`, where the net has the place and the class neither contains nor avoids it. Tells
+/// whether this is so.
+pub fn split(net: &FlatNet, walk: &mut Walk, p: u32) -> bool
+    requires { IsAt (net_of net.now) walk.old }
+    ensures exact { MatchBool result
+        (IsLeft (net_of net.now) walk.new (after_line (TreeLine.Split p) (class_now walk.old) (pending_now walk.old)))
+        (TreeLineHolds (net_of net.now) (class_now walk.old) (TreeLine.Split p) → ⊥) }
+    ensures holds { result ≡ true → TreeLineHolds (net_of net.now) (class_now walk.old) (TreeLine.Split p) }
+    ensures sizes { HasSizes (net_of net.now).places walk.new }
+{
+    let place = p as usize;
+    if place >= net.places() || walk.used.contains(place) {
+        return false;
+    }
+    enter(net, walk, place);
+    true
+}
+
+/// Goes down to the first side of a split at place `p`, which is in none of the splits above it.
+fn enter(net: &FlatNet, walk: &mut Walk, p: usize)
+    requires at { IsAt (net_of net.now) walk.old }
+    requires place { p < (net_of net.now).places }
+    requires room { walk.old.depth < (net_of net.now).places }
+    ensures { Enters (net_of net.now) walk.old walk.new p }
+{
+    let depth = walk.depth;
+    walk.levels[depth] = Level {
+        place: p,
+        contained: false,
+    };
+    walk.saved[depth].copy_from(&walk.live);
+    walk.used.insert(p);
+    leave_out(net, &mut walk.live, p);
+    walk.depth = depth + 1;
+}
+
+/// Leaves the greatest siphon in the set without place `p`.
+fn leave_out(net: &FlatNet, set: &mut PlaceSet, p: usize)
+    requires size { length set.old ≡ (net_of net.now).places }
+    requires place { p < (net_of net.now).places }
+    requires siphon { IsSiphon (net_of net.now) (has set.old) }
+    ensures size { length set.new ≡ length set.old }
+    ensures greatest { IsGreatestSiphon (net_of net.now) (except (has set.old) p) (has set.new) }
+{
+    set.remove(p);
+    greatest_siphon(net, set);
+}
+
+/// Whether no nonempty siphon belongs to the class: the greatest siphon that avoids what it avoids is empty, or
+/// lacks a place of the set that it contains.
+pub fn is_empty_class(net: &FlatNet, walk: &Walk) -> bool
+    requires { IsAt (net_of net.now) walk.now }
+    ensures { MatchBool result (TreeLineHolds (net_of net.now) (class_now walk.now) TreeLine.Empty)
+        (TreeLineHolds (net_of net.now) (class_now walk.now) TreeLine.Empty → ⊥) }
+{
+    walk.live.is_empty() || !walk.contained.is_subset(&walk.live)
+}
+
+/// Goes on to the next class that is left: up from the second sides of splits, and over to the second side of
+/// the first split that has it to come.
+pub fn advance(net: &FlatNet, walk: &mut Walk)
+    requires { IsAt (net_of net.now) walk.old }
+    ensures { IsLeft (net_of net.now) walk.new (pending_now walk.old) }
+{
+    'levels: while walk.depth > 0 {
+        let d = walk.depth - 1;
+        if !walk.levels[d].contained {
+            turn(walk, d);
+            return;
+        }
+        rise(walk, d);
+    }
+}
+
+/// Goes from the first side of split `d`, the deepest, to the second.
+fn turn(walk: &mut Walk, d: usize)
+    requires level { d < length walk.old.levels.items }
+    requires saved { d < length walk.old.saved.items }
+    requires place { (level_at walk.old.levels.items d).place < length walk.old.contained }
+    requires live { length walk.old.live ≡ length (saved_at walk.old.saved.items d) }
+    ensures { Turns walk.old walk.new d }
+{
+    let place = walk.levels[d].place;
+    walk.levels[d] = Level {
+        place,
+        contained: true,
+    };
+    walk.contained.insert(place);
+    walk.live.copy_from(&walk.saved[d]);
+}
+
+/// Goes up from the second side of split `d`, the deepest.
+fn rise(walk: &mut Walk, d: usize)
+    requires level { d < length walk.old.levels.items }
+    requires contained { (level_at walk.old.levels.items d).place < length walk.old.contained }
+    requires used { (level_at walk.old.levels.items d).place < length walk.old.used }
+    ensures { Rises walk.old walk.new d }
+{
+    let place = walk.levels[d].place;
+    walk.contained.remove(place);
+    walk.used.remove(place);
+    walk.depth = d;
+}
