@@ -1,0 +1,11 @@
+pub mod PlaceListLemmas
+pub mod Terms
+pub mod Counts
+pub mod FlowLists
+pub mod ClaimLists
+pub mod BoundParts
+pub mod Parting
+pub mod TreeMaking
+pub mod NextPlaces
+pub mod PlaceTrees
+pub mod WideChecks
