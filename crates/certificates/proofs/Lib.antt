@@ -1,1 +1,12 @@
 pub mod Trees
+pub mod Cuts
+pub mod DecimalTexts
+pub mod Lists
+pub mod LineWords
+pub mod LineReading
+pub mod Progressing
+pub mod LineSplits
+pub mod ReadLines
+pub mod DueTrees
+pub mod OneReading
+pub mod Texts

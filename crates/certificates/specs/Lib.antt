@@ -2,6 +2,9 @@
 -- line asks of a net, and what an accepted certificate claims.
 pub mod Spelling
 pub mod WellFormed
+pub mod Words
+pub mod Lines
+pub mod Moves
 pub mod BadLines
 pub mod Conditions
 pub mod Claims

@@ -3,7 +3,21 @@
 #![tactic(auto)]
 
 mod certificate;
+mod fault;
+mod keywords;
+mod laws;
+mod line;
+mod lines;
+mod numbers;
+mod printing;
+mod progress;
+mod reading;
+mod words;
 
 pub use certificate::{
     BoundLines, Certificate, Claim, Claims, Flow, Flows, PlaceList, TreeLine, TreeLines,
 };
+pub use fault::ReadFault;
+pub use laws::{a_certificate_or_a_bad_line, one_reading};
+pub use printing::print;
+pub use reading::read;

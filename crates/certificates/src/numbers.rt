@@ -1,0 +1,58 @@
+ghost use Rattle.std.specs.Prelude.{◌≡◌, ◌<◌, ◌^◌, ℕ, Some, IfSome};
+ghost use Rattle.certificates.specs.Lines.{amount_in, place_in, term_in};
+ghost use Rattle.certificates.specs.Words.{number_in};
+
+use crate::words::{past, split};
+use net_values::{MAX_PLACES, read_decimal};
+
+/// What amounts are below: 2^127.
+const WIDE: u128 = 0x8000_0000_0000_0000_0000_0000_0000_0000;
+
+/// The number that the text is, from the least to below the limit.
+fn number(least: u128, limit: u128, text: &[u8]) -> Option<u128>
+    ensures value { result ≡ number_in least limit text.now }
+    ensures range { IfSome result (λ n. n < limit) }
+{
+    let number = read_decimal(text)?;
+    if least <= number && number < limit {
+        Some(number)
+    } else {
+        None
+    }
+}
+
+/// The number of a place.
+pub(crate) fn place(text: &[u8]) -> Option<u32>
+    ensures value { result ≡ place_in text.now }
+    ensures range { IfSome result (λ p. p < 2048) }
+{
+    let place = number(0, MAX_PLACES as u128, text)?;
+    Some(place as u32)
+}
+
+/// The number of a flow, from 1.
+pub(crate) fn flow_number(text: &[u8]) -> Option<u32>
+    ensures { result ≡ number_in 1 (2 ^ 32) text.now }
+{
+    let flow = number(1, 0x1_0000_0000, text)?;
+    Some(flow as u32)
+}
+
+/// An amount from the least to 2^127 - 1.
+pub(crate) fn amount(least: u128, text: &[u8]) -> Option<i128>
+    ensures { result ≡ amount_in least text.now }
+{
+    let amount = number(least, WIDE, text)?;
+    Some(amount as i128)
+}
+
+/// A place of a flow with its coefficient.
+pub(crate) fn term(word: &[u8]) -> Option<(u32, i128)>
+    ensures value { result ≡ term_in word.now }
+    ensures range { IfSome result (λ term. term.0 < 2048) }
+{
+    let (first, rest) = split(b':', word);
+    let place = place(first)?;
+    let amount = amount(1, past(rest))?;
+    Some((place, amount))
+}
