@@ -96,9 +96,9 @@ flow_decided net flow =
     (λ parts. record { places = parts.0; balanced = λ t below. (parts.1 t below).same; narrow = λ t below. (parts.1 t below).narrow; tokens = parts.2 })
     (λ holds. (holds.places, λ t below. record { same = holds.balanced t below; narrow = holds.narrow t below }, holds.tokens))
     (three _ _ _
-      (members (ℕ × ℤ) (λ term. term.0 < net.places) flow (0, pos 0) (λ term. less term.0 net.places))
-      (each net.transitions (IsBalancedAt net (vector_of flow)) (balanced_at net (vector_of flow)))
-      (less (weighted_tokens net (vector_of flow) net.initial) (2 ^ 127)))
+    (members (ℕ × ℤ) (λ term. term.0 < net.places) flow (0, pos 0) (λ term. less term.0 net.places))
+    (each net.transitions (IsBalancedAt net (vector_of flow)) (balanced_at net (vector_of flow)))
+    (less (weighted_tokens net (vector_of flow) net.initial) (2 ^ 127)))
 
 claim_decided : (net : Net) (flows : List (List (ℕ × ℤ))) (claim : Claim) → Decided (ClaimHolds net flows claim)
 claim_decided net flows claim =

@@ -40,8 +40,7 @@ module _ (net : Net) (old new : Walk) (at : IsAt net old) where
       ∙ ap (λ (level : Level). after_side (class_of before old.depth) level.place level.contained (pending_of after old.depth)) here
       ∙ ap (λ (classes : List SiphonClass). containing (class_of before old.depth) p ∷ classes) (pending_same before after old.depth there)
       in
-      let free : used_of before old.depth p ≡ false = sym (at.used p below) ∙ unused in
-      (
+      let free : used_of before old.depth p ≡ false = sym (at.used p below) ∙ unused in (
         record {
           sizes = record {
             levels = length_set before after old.depth _ h.levels ∙ at.sizes.levels;
@@ -110,8 +109,7 @@ module _ (net : Net) (old new : Walk) (at : IsAt net old) where
       in
       let had : pending_now old ≡ containing (class_of before d) (level_at before d).place ∷ pending_of before d =
       ap (pending_of before) deep ∙ ap (λ (b : Bool). after_side (class_of before d) (level_at before d).place b (pending_of before d)) first
-      in
-      (
+      in (
         record {
           sizes = record {
             levels = length_set before after d _ h.levels ∙ at.sizes.levels;
@@ -151,8 +149,7 @@ module _ (net : Net) (old new : Walk) (at : IsAt net old) where
       let had : pending_now old ≡ pending_of before d =
       ap (pending_of before) deep ∙ ap (λ (b : Bool). after_side (class_of before d) (level_at before d).place b (pending_of before d)) second
       in
-      let now : class_now new ≡ class_of before d = ap (λ (levels : List Level). class_of levels new.depth) h.levels ∙ ap (class_of before) h.depth in
-      (
+      let now : class_now new ≡ class_of before d = ap (λ (levels : List Level). class_of levels new.depth) h.levels ∙ ap (class_of before) h.depth in (
         record {
           sizes = record {
             levels = ap length h.levels ∙ at.sizes.levels;
@@ -198,8 +195,7 @@ none_left net walk at none = subst (IsLeft net walk) (sym (ap (pending_of walk.l
 -- before any split
 pub begun : (net : Net) (walk : Walk) (full : List Bool) → HasSizes net.places walk → walk.depth ≡ 0 → ((q : ℕ) → q < net.places → has walk.contained q ≡ false) → ((q : ℕ) → q < net.places → has walk.used q ≡ false) → ((q : ℕ) → q < net.places → has full q ≡ true) → IsGreatestSiphon net (has full) (has walk.live) → IsLeft net walk (all_siphons ∷ [])
 begun net walk full sizes none contained used all live =
-    let class : class_now walk ≡ all_siphons = ap (class_of walk.levels.items) none in
-    (
+    let class : class_now walk ≡ all_siphons = ap (class_of walk.levels.items) none in (
       record {
         sizes = sizes;
         deep = omega arith;

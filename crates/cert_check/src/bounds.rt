@@ -6,8 +6,8 @@ ghost use Rattle.certificates.specs.WellFormed.{AreClaims, IsFlow, IsNumberFrom}
 ghost use Rattle.certificates.specs.declared.certificate.Certificate.{Certificate};
 ghost use Rattle.cert_check.specs.Flows.{BoundsPlace, FailsFirst, IsClaim};
 
-use crate::line_checks::Rejected;
 use crate::flows::{flow_holds, load};
+use crate::line_checks::Rejected;
 use crate::tokens::initial_tokens;
 use certificates::{BoundLines, Claim, Flow};
 use net_values::{FlatNet, Vector};
@@ -45,7 +45,12 @@ fn check_flows(net: &FlatNet, flows: &[Flow], y: &mut Vector) -> Result<(), Reje
 }
 
 /// Checks the claims by the flows, which hold. Their first line is the one after those of the flows.
-fn check_claims(net: &FlatNet, flows: &[Flow], claims: &[Claim], y: &mut Vector) -> Result<(), Rejected>
+fn check_claims(
+    net: &FlatNet,
+    flows: &[Flow],
+    claims: &[Claim],
+    y: &mut Vector,
+) -> Result<(), Rejected>
     requires flows { All IsFlow flows.now }
     requires held { All (FlowHolds (net_of net.now)) flows.now }
     requires claims { All IsClaim claims.now }
@@ -91,7 +96,8 @@ fn bounds_place(net: &FlatNet, y: &Vector, place: usize, bound: i128) -> bool
 {
     let coefficients = y.as_slice();
     match initial_tokens(net, coefficients) {
-        Ok(tokens) => coefficients[place] > 0 && tokens / coefficients[place] <= bound.unsigned_abs(),
+        Ok(tokens) => coefficients[place] > 0
+            && tokens / coefficients[place] <= bound.unsigned_abs(),
         Err(_) => false,
     }
 }

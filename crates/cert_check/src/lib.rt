@@ -8,6 +8,8 @@ mod laws;
 mod line_checks;
 mod marked_traps;
 mod scratch;
+#[cfg(test)]
+mod tests;
 mod tokens;
 mod tree;
 mod walk;

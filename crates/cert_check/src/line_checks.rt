@@ -19,7 +19,11 @@ pub struct Rejected(pub u64);
 /// Checks each line of a certificate against a net. An accepted one's claim is true of the net, and one for
 /// Commoner's condition excludes every dead reachable marking of an ordinary net with a transition. It takes no
 /// memory. What the scratch holds is lost.
-pub fn check(net: &FlatNet, certificate: &Certificate, scratch: &mut Scratch) -> Result<(), Rejected>
+pub fn check(
+    net: &FlatNet,
+    certificate: &Certificate,
+    scratch: &mut Scratch,
+) -> Result<(), Rejected>
     requires well_formed { IsWellFormed certificate.now }
     requires scratch { scratch.old ≡ (net_of net.now).places }
     ensures accepted { OnOk result (IsAccepted (net_of net.now) certificate.now) }

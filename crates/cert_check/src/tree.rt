@@ -42,7 +42,11 @@ fn step(net: &FlatNet, line: TreeLine, walk: &mut Walk) -> bool
     match line {
         TreeLine::Split(place) => split(net, walk, place),
         TreeLine::Empty => pass(net, is_empty_class(net, walk), walk),
-        TreeLine::Trap => pass(net, has_marked_trap(net, &walk.contained, &mut walk.trap), walk),
+        TreeLine::Trap => pass(
+            net,
+            has_marked_trap(net, &walk.contained, &mut walk.trap),
+            walk,
+        ),
     }
 }
 

@@ -14,9 +14,9 @@ returns-in-Ok-clause-accepted c =
     let net = net_of c.args.net.now in
     ok_map c.check_claims.result (All (ClaimHolds net c.as_slice-flows.result.now) c.as_slice.result.now) (IsAccepted net (Bounds c.args.lines.now))
     (λ claims. bounds_accepted net c.args.lines.now
-      (subst (λ (flows : List (List (ℕ × ℤ))). All (FlowHolds net) flows) c.as_slice-flows.ensures c.in-Ok.ensures.all)
-      (subst (λ (flows : List (List (ℕ × ℤ))). All (ClaimHolds net flows) c.args.lines.now.claims) c.as_slice-flows.ensures
-        (subst (λ (members : List Claim). All (ClaimHolds net c.as_slice-flows.result.now) members) c.as_slice.ensures claims)))
+    (subst (λ (flows : List (List (ℕ × ℤ))). All (FlowHolds net) flows) c.as_slice-flows.ensures c.in-Ok.ensures.all)
+    (subst (λ (flows : List (List (ℕ × ℤ))). All (ClaimHolds net flows) c.args.lines.now.claims) c.as_slice-flows.ensures
+    (subst (λ (members : List Claim). All (ClaimHolds net c.as_slice-flows.result.now) members) c.as_slice.ensures claims)))
     c.check_claims.ensures.all
 
 pub returns-in-Ok-clause-rejected : goal.returns-in-Ok-clause-rejected
@@ -24,9 +24,9 @@ returns-in-Ok-clause-rejected c =
     let net = net_of c.args.net.now in
     err_map c.check_claims.result (λ (fault : Rejected). FailsFirst (ClaimHolds net c.as_slice-flows.result.now) c.as_slice.result.now (length c.as_slice-flows.result.now + 2) fault.0) (λ (fault : Rejected). IsFalseLine net (Bounds c.args.lines.now) fault.0)
     (λ fault first. claims_rejected net c.args.lines.now fault.0
-      (subst (λ (flows : List (List (ℕ × ℤ))). All (FlowHolds net) flows) c.as_slice-flows.ensures c.in-Ok.ensures.all)
-      (subst (λ (flows : List (List (ℕ × ℤ))). FailsFirst (ClaimHolds net flows) c.args.lines.now.claims (length flows + 2) fault.0) c.as_slice-flows.ensures
-        (subst (λ (members : List Claim). FailsFirst (ClaimHolds net c.as_slice-flows.result.now) members (length c.as_slice-flows.result.now + 2) fault.0) c.as_slice.ensures first)))
+    (subst (λ (flows : List (List (ℕ × ℤ))). All (FlowHolds net) flows) c.as_slice-flows.ensures c.in-Ok.ensures.all)
+    (subst (λ (flows : List (List (ℕ × ℤ))). FailsFirst (ClaimHolds net flows) c.args.lines.now.claims (length flows + 2) fault.0) c.as_slice-flows.ensures
+    (subst (λ (members : List Claim). FailsFirst (ClaimHolds net c.as_slice-flows.result.now) members (length c.as_slice-flows.result.now + 2) fault.0) c.as_slice.ensures first)))
     c.check_claims.ensures.first
 
 pub returns-in-Err-clause-rejected : goal.returns-in-Err-clause-rejected

@@ -32,8 +32,8 @@ returns-clause-exact c =
     match_map c.bounds_place.result (BoundsPlace net (slice_index c.load.new.y) c.args.claim.place c.args.claim.bound) (BoundsPlace net (slice_index c.load.new.y) c.args.claim.place c.args.claim.bound → ⊥)
     (ClaimHolds net c.args.flows.now c.args.claim) (ClaimHolds net c.args.flows.now c.args.claim → ⊥)
     (claim_met net c.as_slice.result.now (slice_index c.load.new.y) c.load.ensures.vector c.args.flows.now c.args.claim is
-      (let count = c.places.ensures.value in let low = c.if-place-places.false in omega arith)
-      (let most = c.if-number-flows.false in omega arith))
+    (let count = c.places.ensures.value in let low = c.if-place-places.false in omega arith)
+    (let most = c.if-number-flows.false in omega arith))
     (λ none holds. none (claim_bounds net c.as_slice.result.now (slice_index c.load.new.y) c.load.ensures.vector c.args.flows.now c.args.claim is holds))
     (subst (λ (bound : ℤ). MatchBool c.bounds_place.result (BoundsPlace net (slice_index c.load.new.y) c.args.claim.place bound) (BoundsPlace net (slice_index c.load.new.y) c.args.claim.place bound → ⊥))
-      (number_kept 0 c.args.claim.bound c.requires.claim.bound) c.bounds_place.ensures)
+    (number_kept 0 c.args.claim.bound c.requires.claim.bound) c.bounds_place.ensures)

@@ -15,9 +15,9 @@ returns-then-is_balanced-clause-exact c =
     subst (λ (b : Bool). MatchBool b (FlowHolds net c.args.flow.now) (FlowHolds net c.args.flow.now → ⊥)) (sym c.is_ok.ensures.value)
     (match_map _ (weighted_tokens net (slice_index c.as_slice.result.now) net.initial < 2 ^ 127) (weighted_tokens net (slice_index c.as_slice.result.now) net.initial < 2 ^ 127 → ⊥) (FlowHolds net c.args.flow.now) (FlowHolds net c.args.flow.now → ⊥)
     (λ narrow. flow_met net c.args.flow.now (slice_index c.load.new.y) c.load.ensures.vector within c.if-is_balanced.ensures
-      (subst (λ (xs : List ℕ). weighted_tokens net (slice_index xs) net.initial < 2 ^ 127) c.as_slice.ensures.value narrow))
+    (subst (λ (xs : List ℕ). weighted_tokens net (slice_index xs) net.initial < 2 ^ 127) c.as_slice.ensures.value narrow))
     (λ wide holds. wide (subst (λ (xs : List ℕ). weighted_tokens net (slice_index xs) net.initial < 2 ^ 127) (sym c.as_slice.ensures.value)
-      (flow_narrow net c.args.flow.now (slice_index c.load.new.y) c.load.ensures.vector holds)))
+    (flow_narrow net c.args.flow.now (slice_index c.load.new.y) c.load.ensures.vector holds)))
     (ok_decides c.initial_tokens.result _ _ c.initial_tokens.ensures))
 
 pub returns-else-is_balanced-clause-exact : goal.returns-else-is_balanced-clause-exact
