@@ -108,9 +108,9 @@ not_earlier bytes one other first second below =
 one_bad_line : (bytes : List ℕ) (one other : ℕ) → IsBadLine bytes one → IsBadLine bytes other → one ≡ other
 one_bad_line bytes one other first second =
     elim (cases_order (length first.before) (length second.before)) [
-      | inl below ↦ absurd (not_earlier bytes one other first second below)
+      | inl same ↦ first.count ∙ ap (λ (n : ℕ). n + 1) same ∙ sym second.count
       | inr rest ↦ elim rest [
-        | inl same ↦ first.count ∙ ap (λ (n : ℕ). n + 1) same ∙ sym second.count
+        | inl below ↦ absurd (not_earlier bytes one other first second below)
         | inr above ↦ absurd (not_earlier bytes other one second first above)
       ]
     ]
