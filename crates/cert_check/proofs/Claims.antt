@@ -1,15 +1,15 @@
 -- An accepted certificate's claim is true. The lines of a tree part the siphons: where a line's condition holds and
 -- the classes that it leaves meet Commoner's condition, its own class does. A flow that holds is a semiflow of
 -- places, so its weighted tokens bound each place that it covers.
-use Rattle.std.proofs.Common.{◌≡◌, refl, sym, ap, subst, ℕ, suc, ◌+◌, ◌-◌, ◌*◌, ◌/◌, ◌<◌, ◌≤◌, ◌==◌, ◌||◌, List, [], ◌∷◌, length, All, Bool, true, false, IsTrue, inl, inr, arith}
+use Rattle.std.proofs.Common.{◌≡◌, refl, sym, subst, ℕ, ◌+◌, ◌-◌, ◌*◌, ◌<◌, ◌≤◌, ◌==◌, List, [], ◌∷◌, length, All, Bool, false, IsTrue, inl, inr, arith}
 use Rattle.std.proofs.lemmas.Bool.{false≢true, cases_Bool, or_cases, or_left, eq-eqb, eqb-true}
 use Rattle.std.proofs.lemmas.List.{get_or_default}
 use Rattle.std.proofs.lemmas.Nat.{le-div}
-use Rattle.std.specs.Prelude.{ℤ, pos, slice_index_or}
+use Rattle.std.specs.Prelude.{pos, slice_index_or}
 use Rattle.net_values.specs.Net.{Net}
-use Rattle.closed_sets.specs.ClosedSets.{IsSiphon, IsWithin, IsNonempty}
+use Rattle.closed_sets.specs.ClosedSets.{IsSiphon, IsNonempty}
 use Rattle.closed_sets.specs.Commoner.{HasMarkedTrap, MeetsCommoner}
-use Rattle.closed_sets.specs.Growth.{Belongs, with_place}
+use Rattle.closed_sets.specs.Growth.{Belongs}
 use Rattle.closed_sets.proofs.Below.{any_at}
 use Rattle.closed_sets.proofs.Firing.{commoner_excludes}
 use Rattle.incidence.specs.Invariance.{weighted_tokens}
@@ -21,7 +21,7 @@ use Rattle.certificates.specs.declared.certificate.Claim.{Claim}
 use Rattle.certificates.specs.declared.certificate.TreeLine.{TreeLine}
 use Rattle.certificates.specs.declared.certificate.TreeLine.TheVariants.{Split, Empty, Trap}
 use Rattle.certificates.specs.Claims.{BoundHolds, ArgueAgainst, HasTrueClaim, ExcludesDead}
-use Rattle.certificates.specs.Conditions.{SiphonClass, all_siphons, without, containing, after_line, is_listed, vector_of, flow_of, FlowHolds, ClaimHolds, BadSiphonHolds, IsAccepted}
+use Rattle.certificates.specs.Conditions.{SiphonClass, all_siphons, without, containing, is_listed, vector_of, flow_of, FlowHolds, ClaimHolds, BadSiphonHolds, IsAccepted}
 use Rattle.certificates.specs.WellFormed.{AreTrees, AreClaims, ArePlaces, IsFlow, IsTree, IsWellFormed}
 use Rattle.certificates.proofs.Trees.{AllHold, all_hold}
 

@@ -1,25 +1,24 @@
 -- Each condition of a line holds or fails, by tests of finitely many numbers: places, transitions and the greatest
 -- siphon or trap in a set. So a certificate has a first line whose condition is false, or is accepted.
-use Rattle.std.proofs.Common.{◌≡◌, refl, sym, ap, subst, ℕ, zero, suc, ◌+◌, ◌-◌, ◌*◌, ◌/◌, ◌^◌, ◌<◌, ◌≤◌, ◌⊎◌, ◌&&◌, not, List, [], ◌∷◌, length, get_or, ltb, All, Bool, true, false, IsTrue, inl, inr, arith}
+use Rattle.std.proofs.Common.{◌≡◌, sym, subst, ℕ, zero, suc, ◌+◌, ◌-◌, ◌/◌, ◌^◌, ◌<◌, ◌≤◌, ◌⊎◌, ◌&&◌, not, List, [], length, get_or, ltb, All, Bool, false, IsTrue, inl, inr, arith}
 use Rattle.std.proofs.lemmas.Bool.{cases_lt, cases_eq, cases_Bool, both_ways, and_from, and_parts, not-true, not_from_false}
 use Rattle.std.proofs.lemmas.List.{get_or_default}
 use Rattle.std.specs.Prelude.{ℤ, pos, slice_index_or}
 use Rattle.net_values.specs.Net.{Net, reversed}
 use Rattle.net_values.specs.Vectors.{positive_part}
-use Rattle.closed_sets.specs.ClosedSets.{any_below, has_input_in, has_output_in, IsSiphon, IsWithin, IsNonempty, IsGreatestSiphon, IsGreatestTrap}
-use Rattle.closed_sets.specs.Commoner.{HasMarkedTrap, IsMarked}
-use Rattle.closed_sets.specs.Growth.{Belongs}
-use Rattle.closed_sets.proofs.Below.{any_at, any_from, none_at}
+use Rattle.closed_sets.specs.ClosedSets.{any_below, has_input_in, has_output_in, IsSiphon, IsGreatestTrap}
+use Rattle.closed_sets.specs.Commoner.{HasMarkedTrap}
+use Rattle.closed_sets.proofs.Below.{any_at, any_from}
 use Rattle.closed_sets.proofs.GreatestSiphons.{greatest_there}
 use Rattle.incidence.specs.Invariance.{weighted_tokens}
-use Rattle.incidence.specs.Matrix.{AreNarrow, gain_sum, loss_sum, incidence_of}
+use Rattle.incidence.specs.Matrix.{gain_sum, loss_sum, incidence_of}
 use Rattle.certificates.specs.declared.certificate.BoundLines.{BoundLines}
 use Rattle.certificates.specs.declared.certificate.Certificate.{Certificate}
 use Rattle.certificates.specs.declared.certificate.Certificate.TheVariants.{Bounds, BadSiphon, Commoner}
 use Rattle.certificates.specs.declared.certificate.Claim.{Claim}
 use Rattle.certificates.specs.declared.certificate.TreeLine.{TreeLine}
 use Rattle.certificates.specs.declared.certificate.TreeLine.TheVariants.{Split, Empty, Trap}
-use Rattle.certificates.specs.Conditions.{SiphonClass, TreeLineHolds, class_at, is_listed, vector_of, flow_of, FlowHolds, ClaimHolds, BadSiphonHolds, BoundLineHolds, LineHolds, IsAccepted, IsFalseLine}
+use Rattle.certificates.specs.Conditions.{SiphonClass, TreeLineHolds, class_at, is_listed, vector_of, flow_of, FlowHolds, ClaimHolds, BadSiphonHolds, BoundLineHolds, LineHolds}
 use Rattle.certificates.specs.Laws.{AcceptedOrAFalseLine}
 use Rattle.cert_check.specs.Flows.{IsBalanced, IsBalancedAt, LiesWithin}
 use Rattle.cert_check.specs.Walks.{allowed_in}

@@ -1,6 +1,6 @@
 -- No nonempty siphon belongs to a class exactly where the greatest siphon that avoids what the class avoids is empty or
 -- lacks a place that it contains: each siphon of the class lies in that one, which is itself of the class if not.
-use Rattle.std.proofs.Common.{◌≡◌, ℕ, ◌<◌, not, Bool, false, IsTrue, inl, inr}
+use Rattle.std.proofs.Common.{◌≡◌, ℕ, ◌<◌, Bool, false, IsTrue, inl, inr}
 use Rattle.std.proofs.lemmas.Bool.{cases_Bool, both_ways, not-true, not_from_false}
 use Rattle.net_values.specs.Net.{Net}
 use Rattle.closed_sets.specs.ClosedSets.{any_below, IsSiphon, IsWithin, IsNonempty, IsGreatestSiphon}

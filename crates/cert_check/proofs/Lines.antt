@@ -1,16 +1,13 @@
 -- What the answers about the parts of a certificate say of its lines by their numbers.
-use Rattle.std.proofs.Common.{◌≡◌, refl, sym, ap, subst, ℕ, zero, suc, ◌+◌, ◌-◌, ◌<◌, ◌≤◌, List, [], ◌∷◌, length, get_or, take, All, Bool, ◌∙◌, inl, inr, arith}
-use Rattle.std.proofs.lemmas.Bool.{cases_lt}
+use Rattle.std.proofs.Common.{◌≡◌, refl, sym, ap, ℕ, zero, suc, ◌+◌, ◌<◌, ◌≤◌, List, [], ◌∷◌, length, get_or, take, All, ◌∙◌, arith}
 use Rattle.std.proofs.lemmas.List.{get_or_default}
 use Rattle.std.specs.Prelude.{pos, slice_index_or}
 use Rattle.net_values.specs.Net.{Net}
 use Rattle.certificates.specs.declared.certificate.BoundLines.{BoundLines}
-use Rattle.certificates.specs.declared.certificate.Certificate.{Certificate}
 use Rattle.certificates.specs.declared.certificate.Certificate.TheVariants.{Bounds, BadSiphon, Commoner}
-use Rattle.certificates.specs.declared.certificate.Claim.{Claim}
 use Rattle.certificates.specs.declared.certificate.TreeLine.{TreeLine}
-use Rattle.certificates.specs.declared.certificate.TreeLine.TheVariants.{Split, Empty, Trap}
-use Rattle.certificates.specs.Conditions.{SiphonClass, all_siphons, TreeLineHolds, after_line, after_lines, class_at, FlowHolds, ClaimHolds, BadSiphonHolds, BoundLineHolds, LineHolds, IsAccepted, IsFalseLine}
+use Rattle.certificates.specs.declared.certificate.TreeLine.TheVariants.{Empty}
+use Rattle.certificates.specs.Conditions.{SiphonClass, TreeLineHolds, after_line, after_lines, class_at, FlowHolds, ClaimHolds, BadSiphonHolds, IsAccepted, IsFalseLine}
 use Rattle.certificates.specs.WellFormed.{AreTrees}
 use Rattle.certificates.proofs.Trees.{after_count}
 use Rattle.cert_check.specs.Flows.{FailsFirst}

@@ -1,5 +1,5 @@
 -- An answer by a truth value, of which each side is led on.
-use Rattle.std.proofs.Common.{◌≡◌, Bool, true, false, Result, Ok, Err, ℕ}
+use Rattle.std.proofs.Common.{Bool, true, false, Result, Ok, Err, ℕ}
 use Rattle.std.specs.Prelude.{MatchBool, OkIff, OnOk, IfErr, is_ok}
 
 pub match_map : (b : Bool) (P Q P' Q' : Type 0) → (P → P') → (Q → Q') → MatchBool b P Q → MatchBool b P' Q'

@@ -1,5 +1,5 @@
 -- The three moves of a walk, and where it begins: each leaves the sets of the class that the walk is then at.
-use Rattle.std.proofs.Common.{◌≡◌, ◌≢◌, refl, sym, ap, ◌∙◌, subst, ℕ, zero, suc, ◌+◌, ◌<◌, ◌≤◌, ◌==◌, ◌||◌, not, List, [], ◌∷◌, Bool, true, false, length, inl, inr, arith}
+use Rattle.std.proofs.Common.{◌≡◌, refl, sym, ap, ◌∙◌, subst, ℕ, suc, ◌<◌, ◌==◌, ◌||◌, List, [], ◌∷◌, Bool, true, false, length, inl, inr, arith}
 use Rattle.std.proofs.lemmas.Bool.{cases_eq}
 use Rattle.net_values.specs.Net.{Net}
 use Rattle.net_values.specs.PlaceSets.{has}
@@ -9,7 +9,7 @@ use Rattle.cert_check.specs.declared.walk.Level.{Level}
 use Rattle.cert_check.specs.declared.walk.Walk.{Walk}
 use Rattle.cert_check.specs.Walks.{level_at, side, after_side, class_of, pending_of, used_of, allowed_in, except, saved_at, HasSizes, IsFresh, IsAt, IsLeft, class_now, pending_now, Enters, Turns, Rises}
 use Rattle.cert_check.proofs.Counts.{room_left}
-use Rattle.cert_check.proofs.WalkLaws.{Alike, class_same, pending_same, used_same, fresh_same, unused_outside, greatest_same, greatest_except, not_or, level_here, level_there, has_here, has_there, saved_here, saved_there, length_set, put, taken_out}
+use Rattle.cert_check.proofs.WalkLaws.{class_same, pending_same, used_same, fresh_same, unused_outside, greatest_same, greatest_except, not_or, level_here, level_there, saved_here, saved_there, length_set, put, taken_out}
 
 pub room_for : (net : Net) (walk : Walk) (p : ℕ) → IsAt net walk → p < net.places → has walk.used p ≡ false → walk.depth < net.places
 room_for net walk p at below unused = room_left net walk.levels.items walk.depth p at.fresh below (sym (at.used p below) ∙ unused)

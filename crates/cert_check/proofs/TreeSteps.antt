@@ -1,12 +1,12 @@
 -- A line of a tree is checked at the class of the walk, which is its own; then the walk is at that of the next line.
-use Rattle.std.proofs.Common.{◌≡◌, refl, sym, ap, ◌∙◌, subst, ℕ, zero, suc, ◌<◌, ◌≤◌, List, [], ◌∷◌, length, take, inl, inr, arith}
+use Rattle.std.proofs.Common.{◌≡◌, sym, ap, ◌∙◌, subst, ℕ, suc, ◌<◌, List, [], ◌∷◌, length, take, inl, inr, arith}
 use Rattle.std.proofs.lemmas.Bool.{cases_eq}
 use Rattle.std.specs.Prelude.{slice_index_or}
 use Rattle.net_values.specs.Net.{Net}
 use Rattle.certificates.specs.declared.certificate.TreeLine.{TreeLine}
-use Rattle.certificates.specs.declared.certificate.TreeLine.TheVariants.{Split, Empty, Trap}
+use Rattle.certificates.specs.declared.certificate.TreeLine.TheVariants.{Empty}
 use Rattle.certificates.specs.Conditions.{SiphonClass, all_siphons, TreeLineHolds, after_line, after_lines, class_at}
-use Rattle.certificates.specs.WellFormed.{AreTrees, IsTree}
+use Rattle.certificates.specs.WellFormed.{IsTree}
 use Rattle.cert_check.specs.declared.walk.Walk.{Walk}
 use Rattle.cert_check.specs.Walks.{IsAt, IsLeft, class_now, pending_now}
 use Rattle.cert_check.proofs.Lines.{HoldBefore, one_left, after_next}

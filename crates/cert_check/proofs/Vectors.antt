@@ -1,6 +1,6 @@
 -- The vector of a flow is written from its last term to its first, so that the first term of a place decides; and
 -- what a vector that is equal to it everywhere meets, the flow meets.
-use Rattle.std.proofs.Common.{◌≡◌, ◌≢◌, refl, sym, ap, ◌∙◌, subst, ℕ, suc, ◌+◌, ◌-◌, ◌^◌, ◌<◌, ◌≤◌, ◌==◌, cond, List, ◌∷◌, Bool, length, get_or, set, drop, inl, inr, arith}
+use Rattle.std.proofs.Common.{◌≡◌, ◌≢◌, sym, ap, ◌∙◌, subst, ℕ, suc, ◌^◌, ◌<◌, ◌≤◌, cond, List, ◌∷◌, Bool, length, get_or, set, drop, inl, inr, arith}
 use Rattle.std.proofs.Math.Seq.{drop-cons}
 use Rattle.std.proofs.lemmas.Bool.{cases_eq, eq-eqb, ne_eqb}
 use Rattle.std.proofs.lemmas.List.{get_or-set_same, get_or-set_other}
@@ -15,7 +15,7 @@ use Rattle.net_values.specs.Vectors.{positive_part}
 use Rattle.incidence.specs.Invariance.{weighted_tokens}
 use Rattle.certificates.specs.declared.certificate.Claim.{Claim}
 use Rattle.certificates.specs.Conditions.{vector_of, flow_of, FlowHolds, ClaimHolds}
-use Rattle.cert_check.specs.Flows.{IsBalanced, IsBalancedAt, LiesWithin, BoundsPlace}
+use Rattle.cert_check.specs.Flows.{IsBalanced, LiesWithin, BoundsPlace}
 
 -- a number in its range is what is read back
 pub number_kept : (least : ℕ) (z : ℤ) → IsNumberFrom least z → to_z w128 (of_z w128 z) ≡ z

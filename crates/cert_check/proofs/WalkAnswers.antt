@@ -1,5 +1,5 @@
 -- What the tests of a walk's sets say of its class.
-use Rattle.std.proofs.Common.{◌≡◌, refl, sym, ap, ◌∙◌, subst, ℕ, ◌<◌, ◌≤◌, ◌↔◌, ◌&&◌, not, List, [], ◌∷◌, length, Bool, true, false, IsTrue, inl, inr, arith}
+use Rattle.std.proofs.Common.{◌≡◌, refl, sym, ◌∙◌, ℕ, ◌<◌, ◌↔◌, ◌&&◌, not, Bool, true, false, IsTrue, inl, inr, arith}
 use Rattle.std.proofs.lemmas.Bool.{cases_lt, cases_Bool, both_ways, false≢true, and_from, and_parts, not-true, not_from_false}
 use Rattle.std.proofs.lemmas.List.{get_or_past}
 use Rattle.std.specs.Prelude.{MatchBool}
@@ -7,10 +7,10 @@ use Rattle.net_values.specs.Net.{Net}
 use Rattle.net_values.specs.PlaceSets.{has, IsEmpty, IsSubset}
 use Rattle.closed_sets.specs.ClosedSets.{any_below}
 use Rattle.closed_sets.specs.Commoner.{HasMarkedTrap}
-use Rattle.closed_sets.proofs.Below.{any_at, any_from, none_from, none_at}
+use Rattle.closed_sets.proofs.Below.{any_at, any_from, none_from}
 use Rattle.closed_sets.proofs.SmallerSiphons.{nonempty_from}
 use Rattle.certificates.specs.declared.certificate.TreeLine.TheVariants.{Split, Empty, Trap}
-use Rattle.certificates.specs.Conditions.{SiphonClass, TreeLineHolds}
+use Rattle.certificates.specs.Conditions.{TreeLineHolds}
 use Rattle.cert_check.specs.declared.walk.Walk.{Walk}
 use Rattle.cert_check.specs.Walks.{IsAt, class_now}
 use Rattle.cert_check.proofs.EmptyClasses.{none_there, place_lacking, one_there}

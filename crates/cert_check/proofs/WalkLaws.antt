@@ -1,17 +1,15 @@
 -- A walk whose sets are those of its class keeps this where it goes down, over and up. What the class and the pending
 -- classes are depends on the splits above only, so a split that is written at the end of the way changes none of
 -- those before it.
-use Rattle.std.proofs.Common.{◌≡◌, ◌≢◌, refl, sym, ap, ◌∙◌, subst, ℕ, zero, suc, ◌+◌, ◌<◌, ◌≤◌, ◌==◌, ◌||◌, ◌&&◌, not, List, [], ◌∷◌, Bool, true, false, IsTrue, length, set, length-set, inl, inr, arith}
-use Rattle.std.proofs.lemmas.Bool.{cases_eq, cases_Bool, both_ways, true≢false, false≢true, and_from, and_parts, and_right, or_left, or_right, eq-eqb, eqb-true, ne_eqb, not-true, not_from_false}
+use Rattle.std.proofs.Common.{◌≡◌, ◌≢◌, refl, sym, ap, ◌∙◌, ℕ, zero, suc, ◌<◌, ◌==◌, ◌||◌, ◌&&◌, not, List, [], Bool, true, false, IsTrue, length, set, length-set, inl, inr, arith}
+use Rattle.std.proofs.lemmas.Bool.{cases_eq, true≢false, and_from, and_parts, and_right, or_left, eq-eqb, ne_eqb}
 use Rattle.std.proofs.lemmas.List.{get_or-set_same, get_or-set_other}
 use Rattle.net_values.specs.Net.{Net}
 use Rattle.net_values.specs.PlaceSets.{has}
-use Rattle.closed_sets.specs.ClosedSets.{IsSiphon, IsWithin, IsGreatestSiphon}
-use Rattle.certificates.specs.Conditions.{SiphonClass, all_siphons, without, containing}
+use Rattle.closed_sets.specs.ClosedSets.{IsGreatestSiphon}
+use Rattle.certificates.specs.Conditions.{SiphonClass}
 use Rattle.cert_check.specs.declared.walk.Level.{Level}
-use Rattle.cert_check.specs.declared.walk.Walk.{Walk}
-use Rattle.cert_check.specs.Walks.{level_at, side, after_side, class_of, pending_of, used_of, allowed_in, except, saved_at, HasSizes, IsFresh, IsAt, IsLeft, class_now, pending_now, Enters, Turns, Rises}
-use Rattle.cert_check.proofs.Counts.{room_left}
+use Rattle.cert_check.specs.Walks.{level_at, side, after_side, class_of, pending_of, used_of, except, saved_at, IsFresh}
 
 or_false : (x y : Bool) → x ≡ false → y ≡ false → (x || y) ≡ false
 or_false false y first second = second

@@ -1,4 +1,4 @@
-use Rattle.std.proofs.Common.{◌≡◌, ◌∙◌, sym, ap, subst, ℕ, ℤ, ◌<◌, ◌≤◌, List, [], length, get_or, refl, inl, inr, arith}
+use Rattle.std.proofs.Common.{◌∙◌, sym, subst, ℕ, get_or, inl, inr, arith}
 use Rattle.std.proofs.lemmas.Bool.{cases_eq}
 use Rattle.net_values.specs.FlatNets.{net_of}
 use Rattle.certificates.specs.Conditions.{FlowHolds}

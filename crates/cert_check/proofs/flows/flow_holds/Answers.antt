@@ -1,4 +1,4 @@
-use Rattle.std.proofs.Common.{◌≡◌, sym, refl, subst, ap, ℕ, ◌<◌, ◌^◌, List, Bool, slice_index}
+use Rattle.std.proofs.Common.{sym, refl, subst, ℕ, ◌<◌, ◌^◌, List, Bool, slice_index}
 use Rattle.std.specs.Prelude.{MatchBool}
 use Rattle.net_values.specs.FlatNets.{net_of}
 use Rattle.incidence.specs.Invariance.{weighted_tokens}

@@ -1,4 +1,4 @@
-use Rattle.std.proofs.Common.{sym, refl, subst, Bool, ℕ, ◌<◌, All, rules}
+use Rattle.std.proofs.Common.{sym, refl, subst, Bool, ℕ, ◌<◌, All}
 use Rattle.std.specs.Prelude.{MatchBool}
 use Rattle.net_values.specs.FlatNets.{net_of}
 use Rattle.net_values.specs.PlaceSets.{has}

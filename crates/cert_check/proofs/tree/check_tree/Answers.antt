@@ -1,4 +1,4 @@
-use Rattle.std.proofs.Common.{◌≡◌, sym, subst, ℕ, suc, ◌+◌, ◌<◌, List, length, get_or, refl, arith}
+use Rattle.std.proofs.Common.{◌≡◌, sym, subst, suc, ◌+◌, List, get_or, refl, arith}
 use Rattle.std.proofs.lemmas.List.{get_or_default}
 use Rattle.net_values.specs.FlatNets.{net_of}
 use Rattle.certificates.specs.Conditions.{IsFalseLine}

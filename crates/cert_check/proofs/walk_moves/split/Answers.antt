@@ -1,4 +1,4 @@
-use Rattle.std.proofs.Common.{◌≡◌, ◌∙◌, sym, ◌<◌, arith}
+use Rattle.std.proofs.Common.{◌∙◌, sym, arith}
 use Rattle.net_values.specs.FlatNets.{net_of}
 use Rattle.cert_check.proofs.Moves.{room_for, entered}
 use Rattle.cert_check.proofs.WalkAnswers.{split_holds, split_fails}
