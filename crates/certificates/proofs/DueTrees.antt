@@ -1,5 +1,5 @@
 -- A line makes at most one more tree due.
-use Rattle.std.proofs.Common.{◌≡◌, subst, ℕ, ℤ, zero, suc, ◌+◌, ◌≤◌, if◌then◌else◌, Bool, true, false, refl, List, [], ◌∷◌, ◌++◌, Option, Some, None, arith}
+use Rattle.std.proofs.Common.{◌≡◌, subst, ℕ, ℤ, zero, suc, ◌+◌, ◌≤◌, if◌then◌else◌, Bool, true, false, List, [], ◌∷◌, ◌++◌, Option, Some, None, arith}
 use Rattle.std.specs.Prelude.{nat_le}
 use Rattle.std.specs.Option.{option_and_then}
 use Rattle.certificates.specs.declared.certificate.BoundLines.{BoundLines}

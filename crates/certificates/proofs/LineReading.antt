@@ -1,23 +1,22 @@
 -- The reader of a line is exact: it gives a line just where the line is proper and spelled so.
-use Rattle.std.proofs.Common.{◌≡◌, refl, sym, ap, ◌∙◌, subst, ℕ, zero, suc, ◌<◌, ◌≤◌, ◌^◌, Bool, true, false, cond, ℤ, pos, negsuc, List, [], ◌∷◌, ◌++◌, length, map, drop, decimal, Option, Some, None, inl, inr, arith}
-use Rattle.std.specs.Prelude.{All, AllPairs, bytes_eq}
+use Rattle.std.proofs.Common.{◌≡◌, refl, sym, ap, ◌∙◌, subst, ℕ, ◌<◌, ◌≤◌, ◌^◌, Bool, true, false, cond, ℤ, pos, negsuc, List, [], ◌∷◌, ◌++◌, length, map, drop, decimal, Option, Some, None, inl, inr, arith}
+use Rattle.std.specs.Prelude.{bytes_eq}
 use Rattle.std.specs.List.{find, AllByRecursion}
 use Rattle.std.specs.Option.{option_and_then, option_map}
 use Rattle.net_values.specs.Vectors.{positive_part}
 use Rattle.net_values.specs.declared.limits.TheConstants.{MAX_PLACES}
 use Rattle.certificates.specs.declared.certificate.Claim.{Claim}
-use Rattle.certificates.specs.declared.certificate.TreeLine.{TreeLine}
 use Rattle.certificates.specs.declared.certificate.TreeLine.TheVariants.{Split, Empty, Trap}
 use Rattle.certificates.specs.declared.line.Keyword.{Keyword}
 use Rattle.certificates.specs.declared.line.Keyword.TheVariants.{BoundsWord, BadSiphonWord, CommonerWord, FlowWord, BoundWord, SiphonWord, SplitWord, EmptyWord, TrapWord, EndWord}
 use Rattle.certificates.specs.declared.line.Line.{Line}
 use Rattle.certificates.specs.declared.line.Line.TheVariants.{OpensBounds, OpensBadSiphon, OpensCommoner, Flow, Bound, Siphon, Tree, Ends}
-use Rattle.certificates.specs.WellFormed.{IsNumberFrom, IsFlow, ArePlaces, IsTreeLine}
+use Rattle.certificates.specs.WellFormed.{IsNumberFrom, IsFlow, ArePlaces}
 use Rattle.certificates.specs.Words.{before, from_first, cut, words_in, number_in, listed, some_of}
 use Rattle.certificates.specs.Lines.{IsClaim, IsProper, word_of, keywords, keyword_in, place_in, amount_in, term_in, claim_in, alone, split_in, bound_in, flow_in, siphon_in, line_of, line_in}
 use Rattle.certificates.proofs.Cuts.{IsFree, joined, cut_joins, cut_again, cut_first, cut_others, first_parts, first_begins, first_again}
-use Rattle.certificates.proofs.DecimalTexts.{same_bytes, bytes_same, number_found, number_again, IsDigit, decimal_digits, decimal_some}
-use Rattle.certificates.proofs.Lists.{all_each, each_all, each_map, each_mapped, each_append, Ascends, pairs_ascending, ascends_all, IsListing, listed_found, listed_again}
+use Rattle.certificates.proofs.DecimalTexts.{same_bytes, number_found, number_again, IsDigit, decimal_digits, decimal_some}
+use Rattle.certificates.proofs.Lists.{all_each, each_all, each_map, each_mapped, each_append, Ascends, pairs_ascending, ascends_all, listed_found, listed_again}
 use Rattle.certificates.proofs.LineWords.{term_text, keyword_of, words_of, front_of, IsText, keyword_text, text_free}
 
 chained : {T U : Type 0} (f : T → Option U) (o : Option T) (u : U) → option_and_then f o ≡ Some u → (t : T) × (o ≡ Some t) × (f t ≡ Some u)
@@ -70,8 +69,8 @@ colon_there : (word : List ℕ) (n : ℕ) → n < 2 ^ 128 → drop 1 (from_first
 colon_there word n fits is =
     elim (first_begins 58 word) [
       | inl none ↦
-        let nothing : length (decimal n) ≡ 0 = ap length (sym is) ∙ ap (λ (xs : List ℕ). length (drop 1 xs)) none in
-        let some : 0 < length (decimal n) = decimal_some n fits in absurd (omega (arith, nothing, some))
+          let nothing : length (decimal n) ≡ 0 = ap length (sym is) ∙ ap (λ (xs : List ℕ). length (drop 1 xs)) none in
+          let some : 0 < length (decimal n) = decimal_some n fits in absurd (omega (arith, nothing, some))
       | inr begins ↦ first_parts 58 word ∙ ap (λ (xs : List ℕ). before 58 word ++ xs) (begins.1 ∙ sym (ap (λ (xs : List ℕ). 58 ∷ drop 1 xs) begins.1))
     ]
 
@@ -290,7 +289,7 @@ pub line_again : (line : Line) → IsProper line → line_in (front_of line) ≡
 unfolding line_in
 line_again line proper =
     let cuts = cut_again 32 (word_of (keyword_of line)) (words_of line) (text_free 32 (omega arith) (word_of (keyword_of line)) (keyword_text (keyword_of line)))
-        (each_map IsText (IsFree 32) (text_free 32 (omega arith)) (words_of line) (words_texts line proper)) in
+    (each_map IsText (IsFree 32) (text_free 32 (omega arith)) (words_of line) (words_texts line proper)) in
     let P : List ℕ × List (List ℕ) → Type 0 = λ x. option_and_then (λ keyword. line_of keyword x.1) (keyword_in x.0) ≡ Some line in
     subst P (sym cuts) (rw (keyword_again (keyword_of line)) (said_again line proper))
 

@@ -1,10 +1,9 @@
 -- The lines of bytes are one list: each line ends at the first line feed from where it begins.
-use Rattle.std.proofs.Common.{◌≡◌, ◌≢◌, refl, sym, ap, ◌∙◌, subst, ℕ, ◌==◌, Bool, true, false, List, [], ◌∷◌, ◌++◌, append_assoc, append-nil, arith}
-use Rattle.std.specs.Prelude.{All}
+use Rattle.std.proofs.Common.{◌≡◌, ◌≢◌, refl, sym, ap, ◌∙◌, subst, ℕ, ◌==◌, Bool, true, false, List, [], ◌∷◌, ◌++◌, append_assoc, arith}
 use Rattle.std.specs.List.{flat_map, AllByRecursion}
 use Rattle.std.proofs.lemmas.Bool.Decides.{nat_tests}
 use Rattle.certificates.specs.Words.{before, from_first}
-use Rattle.certificates.specs.BadLines.{HasNoLineFeed, IsLine, AreLinesOf}
+use Rattle.certificates.specs.BadLines.{IsLine, AreLinesOf}
 use Rattle.certificates.proofs.Cuts.{IsFree, first_again, other_test, same_test}
 use Rattle.certificates.proofs.Lists.{all_each, each_all}
 

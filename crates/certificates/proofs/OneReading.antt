@@ -1,21 +1,20 @@
 -- Bytes have one reading: walked line by line they spell a certificate or have a bad line, and of two bad lines the
 -- later one would stand after lines that begin no certificate.
-use Rattle.std.proofs.Common.{◌≡◌, ◌⊎◌, refl, sym, ap, ◌∙◌, subst, ℕ, suc, ◌+◌, ◌<◌, List, [], ◌∷◌, ◌++◌, length, map, Option, Some, None, inl, inr, append_assoc, append-nil, arith}
-use Rattle.std.specs.Prelude.{All}
+use Rattle.std.proofs.Common.{◌≡◌, ◌⊎◌, refl, sym, ap, ◌∙◌, subst, ℕ, ◌+◌, ◌<◌, List, [], ◌∷◌, ◌++◌, length, map, Option, Some, None, inl, inr, append_assoc, arith}
 use Rattle.std.specs.List.{AllByRecursion}
 use Rattle.std.specs.Option.{option_and_then}
 use Rattle.std.proofs.lemmas.Bool.{cases_order}
 use Rattle.certificates.specs.declared.certificate.Certificate.{Certificate}
 use Rattle.certificates.specs.declared.progress.Progress.{Progress}
-use Rattle.certificates.specs.declared.progress.Progress.TheVariants.{Begun, InBounds, InSiphon, AfterSiphon, InTree, Ended}
-use Rattle.certificates.specs.BadLines.{Spells, HasNoLineFeed, IsLine, AreLinesOf, BeginsCertificate, IsBadLine}
+use Rattle.certificates.specs.declared.progress.Progress.TheVariants.{Begun, Ended}
+use Rattle.certificates.specs.BadLines.{Spells, IsLine, AreLinesOf, BeginsCertificate, IsBadLine}
 use Rattle.certificates.specs.Laws.{ACertificateOrABadLine, OneReading}
 use Rattle.certificates.specs.Lines.{spelled, line_in}
 use Rattle.certificates.specs.Moves.{next}
 use Rattle.certificates.specs.Spelling.{certificate_lines}
 use Rattle.certificates.proofs.Cuts.{IsFree}
-use Rattle.certificates.proofs.LineSplits.{bytes_of, same_lines, HasLines, has_lines}
-use Rattle.certificates.proofs.Lists.{all_each, each_append}
+use Rattle.certificates.proofs.LineSplits.{bytes_of, same_lines, has_lines}
+use Rattle.certificates.proofs.Lists.{all_each}
 use Rattle.certificates.proofs.Progressing.{values_of, certificate_read}
 use Rattle.certificates.proofs.ReadLines.{NoFeed, ReadTo, read_start, read_more, line_is_bad, end_is_bad, end_spells, lines_are, values_proper, are_lines, text_lines, spelled_read}
 
@@ -33,13 +32,15 @@ walk : (bytes : List ℕ) (lines : List (List ℕ)) (rest : List ℕ) (progress 
 walk bytes [] rest progress number each free h = at_end bytes rest progress number h free
 walk bytes (line ∷ lines) rest progress number each free h =
     go (option_and_then (next progress) (line_in each.0.0)) refl (λ later more. walk bytes lines rest later (number + 1) each.1 free more) where
-  after : List ℕ
-  after = bytes_of lines ++ rest
-  parts : (line ++ bytes_of lines) ++ rest ≡ each.0.0 ++ 10 ∷ (bytes_of lines ++ rest)
-  parts = append_assoc line (bytes_of lines) rest ∙ ap (λ (xs : List ℕ). xs ++ (bytes_of lines ++ rest)) each.0.2 ∙ append_assoc each.0.0 (10 ∷ []) (bytes_of lines ++ rest)
-  go : (o : Option Progress) → option_and_then (next progress) (line_in each.0.0) ≡ o → ((later : Progress) → ReadTo bytes (bytes_of lines ++ rest) later (number + 1) → HasReading bytes) → HasReading bytes
-  go None is more = inr (number, line_is_bad bytes ((line ++ bytes_of lines) ++ rest) each.0.0 (bytes_of lines ++ rest) progress number h parts (all_each NoFeed each.0.0 each.0.1) is)
-  go (Some later) is more = more later (read_more bytes ((line ++ bytes_of lines) ++ rest) each.0.0 (bytes_of lines ++ rest) progress later number h parts is)
+      after : List ℕ
+      after = bytes_of lines ++ rest
+
+      parts : (line ++ bytes_of lines) ++ rest ≡ each.0.0 ++ 10 ∷ (bytes_of lines ++ rest)
+      parts = append_assoc line (bytes_of lines) rest ∙ ap (λ (xs : List ℕ). xs ++ (bytes_of lines ++ rest)) each.0.2 ∙ append_assoc each.0.0 (10 ∷ []) (bytes_of lines ++ rest)
+
+      go : (o : Option Progress) → option_and_then (next progress) (line_in each.0.0) ≡ o → ((later : Progress) → ReadTo bytes (bytes_of lines ++ rest) later (number + 1) → HasReading bytes) → HasReading bytes
+      go None is more = inr (number, line_is_bad bytes ((line ++ bytes_of lines) ++ rest) each.0.0 (bytes_of lines ++ rest) progress number h parts (all_each NoFeed each.0.0 each.0.1) is)
+      go (Some later) is more = more later (read_more bytes ((line ++ bytes_of lines) ++ rest) each.0.0 (bytes_of lines ++ rest) progress later number h parts is)
 
 pub a_certificate_or_a_bad_line : ACertificateOrABadLine
 a_certificate_or_a_bad_line bytes =
@@ -119,15 +120,15 @@ never_both : (bytes : List ℕ) (certificate : Certificate) (number : ℕ) → S
 never_both bytes certificate number spells bad =
     let lines = map spelled (values_of certificate) in
     let same = (same_lines lines (bad.before ++ bad.after) [] bad.rest (are_lines (values_of certificate) (values_proper certificate spells.well_formed)) (all_each IsLine (bad.before ++ bad.after) bad.parts.each) tt (all_each NoFeed bad.rest bad.parts.unended)
-        (sym (text_lines certificate) ∙ sym spells.text ∙ bad.parts.joined)).0 in
+    (sym (text_lines certificate) ∙ sym spells.text ∙ bad.parts.joined)).0 in
     let whole : certificate_lines certificate ≡ bad.before ++ bad.after = lines_are certificate ∙ same in
     elim bad.bad [
       | inl stops ↦ stops.3 record {
-          certificate = certificate;
-          well_formed = spells.well_formed;
-          more = stops.1;
-          begins = whole ∙ ap (λ (xs : List (List ℕ)). bad.before ++ xs) stops.2 ∙ sym (append_assoc bad.before (stops.0 ∷ []) stops.1);
-        }
+        certificate = certificate;
+        well_formed = spells.well_formed;
+        more = stops.1;
+        begins = whole ∙ ap (λ (xs : List (List ℕ)). bad.before ++ xs) stops.2 ∙ sym (append_assoc bad.before (stops.0 ∷ []) stops.1);
+      }
       | inr none ↦ none.1 certificate spells
     ]
 

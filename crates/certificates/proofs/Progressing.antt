@@ -1,7 +1,7 @@
 -- What was read stands for its lines: each step keeps that, each certificate is read so, and what was read can be
 -- completed. So the lines with which a certificate begins are those that are read.
-use Rattle.std.proofs.Common.{◌≡◌, refl, sym, ap, ◌∙◌, subst, ℕ, zero, suc, ◌+◌, ◌<◌, ◌≤◌, if◌then◌else◌, Bool, true, false, ℤ, List, [], ◌∷◌, ◌++◌, length, map, Option, Some, None, append_assoc, append-nil, arith}
-use Rattle.std.specs.Prelude.{nat_le, All, AllPairs}
+use Rattle.std.proofs.Common.{◌≡◌, refl, sym, ap, ◌∙◌, subst, ℕ, zero, suc, ◌+◌, ◌<◌, ◌≤◌, if◌then◌else◌, Bool, true, false, ℤ, List, [], ◌∷◌, ◌++◌, map, Option, Some, None, append_assoc, append-nil, arith}
+use Rattle.std.specs.Prelude.{nat_le}
 use Rattle.std.specs.List.{AllByRecursion}
 use Rattle.std.specs.Option.{option_and_then}
 use Rattle.net_values.specs.declared.limits.TheConstants.{MAX_PLACES}
@@ -15,10 +15,10 @@ use Rattle.certificates.specs.declared.line.Line.{Line}
 use Rattle.certificates.specs.declared.line.Line.TheVariants.{OpensBounds, OpensBadSiphon, OpensCommoner, Flow, Bound, Siphon, Tree, Ends}
 use Rattle.certificates.specs.declared.progress.Progress.{Progress}
 use Rattle.certificates.specs.declared.progress.Progress.TheVariants.{Begun, InBounds, InSiphon, AfterSiphon, InTree, Ended}
-use Rattle.certificates.specs.WellFormed.{IsFlow, AreClaims, ArePlaces, IsTreeLine, AreTrees, IsTree, IsWellFormed}
+use Rattle.certificates.specs.WellFormed.{IsFlow, AreClaims, ArePlaces, IsTreeLine, AreTrees, IsWellFormed}
 use Rattle.certificates.specs.Lines.{IsClaim, IsProper}
-use Rattle.certificates.specs.Moves.{no_lines, next, opened, with_flow, with_claim, with_tree_line, tree_ended}
-use Rattle.certificates.proofs.Lists.{le_true, le_from, all_each, each_all, each_append, each_mapped, each_map, Ascends, least_after, pairs_ascending, ascends_all, ascends_more, least_more}
+use Rattle.certificates.specs.Moves.{no_lines, next, with_flow, with_tree_line, tree_ended}
+use Rattle.certificates.proofs.Lists.{le_true, le_from, all_each, each_all, each_append, Ascends, least_after, pairs_ascending, ascends_all, ascends_more, least_more}
 
 -- the lines of a certificate as values
 abbrev pub claim_place : Claim → ℕ
@@ -121,7 +121,7 @@ flow_stands : (flows : List (List (ℕ × ℤ))) (claims : List Claim) (least : 
 flow_stands flows [] least flow values later h proper e =
     let same : InBounds record { flows = flows ++ flow ∷ []; claims = [] } 0 ≡ later = cc in
     let lines_are : values ++ Flow flow ∷ [] ≡ (OpensBounds ∷ map Flow (flows ++ flow ∷ [])) ++ [] =
-        ap (λ (vs : List Line). vs ++ Flow flow ∷ []) (h.0 ∙ append-nil (OpensBounds ∷ map Flow flows)) ∙ more_line Flow (OpensBounds ∷ []) flows flow ∙ sym (append-nil (OpensBounds ∷ map Flow (flows ++ flow ∷ []))) in
+    ap (λ (vs : List Line). vs ++ Flow flow ∷ []) (h.0 ∙ append-nil (OpensBounds ∷ map Flow flows)) ∙ more_line Flow (OpensBounds ∷ []) flows flow ∙ sym (append-nil (OpensBounds ∷ map Flow (flows ++ flow ∷ []))) in
     subst (λ (p : Progress). Stands p (values ++ Flow flow ∷ [])) same (lines_are, each_append IsFlow flows (flow ∷ []) h.1 (proper, tt), tt, tt, refl)
 flow_stands flows (claim ∷ claims) least flow values later h proper e = absurd (cc)
 
@@ -131,7 +131,7 @@ claim_stands lines least claim values later h proper true is e =
     let same : InBounds record { flows = lines.flows; claims = lines.claims ++ claim ∷ [] } (claim.place + 1) ≡ later = cc in
     let low : least_after claim_place 0 lines.claims ≤ claim.place = subst (λ (n : ℕ). n ≤ claim.place) h.4 (le_from least claim.place is) in
     let lines_are : values ++ Bound claim ∷ [] ≡ (OpensBounds ∷ map Flow lines.flows) ++ map Bound (lines.claims ++ claim ∷ []) =
-        ap (λ (vs : List Line). vs ++ Bound claim ∷ []) h.0 ∙ more_line Bound (OpensBounds ∷ map Flow lines.flows) lines.claims claim in
+    ap (λ (vs : List Line). vs ++ Bound claim ∷ []) h.0 ∙ more_line Bound (OpensBounds ∷ map Flow lines.flows) lines.claims claim in
     subst (λ (p : Progress). Stands p (values ++ Bound claim ∷ [])) same
     (lines_are, h.1, each_append IsClaim lines.claims (claim ∷ []) h.2 (proper, tt), ascends_more claim_place 0 lines.claims claim h.3 low, sym (least_more claim_place 0 lines.claims claim))
 claim_stands lines least claim values later h proper false is e = absurd (cc)

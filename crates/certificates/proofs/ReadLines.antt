@@ -1,28 +1,26 @@
 -- The progress of reading, against the lines of bytes: each line that was read is spelled by a value; where the next
 -- one can't follow, no certificate begins with it.
-use Rattle.std.proofs.Common.{◌≡◌, ◌≢◌, ◌⊎◌, refl, sym, ap, ◌∙◌, subst, ℕ, suc, ◌+◌, ◌≤◌, ◌^◌, List, [], ◌∷◌, ◌++◌, length, map, Option, Some, None, inl, inr, append_assoc, append-nil, arith}
-use Rattle.std.specs.Prelude.{All}
+use Rattle.std.proofs.Common.{◌≡◌, ◌≢◌, refl, sym, ap, ◌∙◌, subst, ℕ, suc, ◌+◌, List, [], ◌∷◌, ◌++◌, length, map, Option, Some, None, inl, inr, append_assoc, append-nil, arith}
 use Rattle.std.specs.List.{flat_map, AllByRecursion}
 use Rattle.std.specs.Option.{option_and_then}
-use Rattle.std.proofs.lemmas.List.{append_cancel_left, append_cancel_right}
-use Rattle.std.proofs.lemmas.List.Folds.{flat_map-map}
+use Rattle.std.proofs.lemmas.List.{append_cancel_right}
 use Rattle.certificates.specs.declared.certificate.Certificate.{Certificate}
 use Rattle.certificates.specs.declared.certificate.Certificate.TheVariants.{Bounds, BadSiphon, Commoner}
 use Rattle.certificates.specs.declared.line.Line.{Line}
-use Rattle.certificates.specs.declared.line.Line.TheVariants.{OpensBounds, OpensBadSiphon, OpensCommoner, Flow, Bound, Siphon, Tree, Ends}
+use Rattle.certificates.specs.declared.line.Line.TheVariants.{OpensBounds, OpensCommoner, Flow, Bound, Tree, Ends}
 use Rattle.certificates.specs.declared.progress.Progress.{Progress}
 use Rattle.certificates.specs.declared.progress.Progress.TheVariants.{Begun, Ended}
-use Rattle.certificates.specs.WellFormed.{IsFlow, ArePlaces, IsTreeLine, IsWellFormed}
+use Rattle.certificates.specs.WellFormed.{IsFlow, IsTreeLine, IsWellFormed}
 use Rattle.certificates.specs.Spelling.{flow_line, bound_line, tree_line, certificate_lines, certificate_text}
 use Rattle.certificates.specs.Words.{before, from_first}
-use Rattle.certificates.specs.Lines.{spelled, IsClaim, IsProper, word_of, line_in}
+use Rattle.certificates.specs.Lines.{spelled, IsProper, word_of, line_in}
 use Rattle.certificates.specs.Moves.{next}
-use Rattle.certificates.specs.BadLines.{Spells, HasNoLineFeed, IsLine, AreLinesOf, BeginsCertificate, IsBadLine}
+use Rattle.certificates.specs.BadLines.{Spells, IsLine, BeginsCertificate, IsBadLine}
 use Rattle.certificates.proofs.Cuts.{IsFree, first_parts, before_free}
 use Rattle.certificates.proofs.Lists.{all_each, each_all, each_append, each_map, each_mapped}
 use Rattle.certificates.proofs.LineWords.{front_of, keyword_of, words_of, spelled_is, keyword_text, text_free, joined_free}
 use Rattle.certificates.proofs.LineReading.{line_found, line_again, words_texts}
-use Rattle.certificates.proofs.LineSplits.{bytes_of, same_lines, HasLines, has_lines}
+use Rattle.certificates.proofs.LineSplits.{bytes_of, same_lines, has_lines}
 use Rattle.certificates.proofs.Progressing.{values_of, read_on, read_append, certificate_read, completes, ended_is, each_claim}
 
 abbrev pub NoFeed : ℕ → Type 0
@@ -43,7 +41,7 @@ lines_are (Bounds lines) =
     let flows = map_map Flow flow_line (λ flow. refl) lines.flows in
     let claims = map_map Bound bound_line (λ claim. refl) lines.claims in
     let inner : map spelled (map Flow lines.flows ++ map Bound lines.claims) ≡ map flow_line lines.flows ++ map bound_line lines.claims =
-        map_append spelled (map Flow lines.flows) (map Bound lines.claims) ∙ (λ i. flows i ++ claims i) in
+    map_append spelled (map Flow lines.flows) (map Bound lines.claims) ∙ (λ i. flows i ++ claims i) in
     ap (λ (xs : List (List ℕ)). spelled OpensBounds ∷ xs) (sym (map_append spelled (map Flow lines.flows ++ map Bound lines.claims) (Ends ∷ []) ∙ ap (λ (xs : List (List ℕ)). xs ++ spelled Ends ∷ []) inner))
 lines_are (BadSiphon places) = refl
 lines_are (Commoner tree) =
@@ -51,12 +49,14 @@ lines_are (Commoner tree) =
     (sym (map_append spelled (map Tree tree) (Ends ∷ []) ∙ ap (λ (xs : List (List ℕ)). xs ++ spelled Ends ∷ []) (map_map Tree tree_line (λ line. refl) tree)))
 
 pub values_proper : (certificate : Certificate) → IsWellFormed certificate → AllByRecursion IsProper (values_of certificate)
-values_proper (Bounds lines) well =
-    (tt, each_append IsProper (map Flow lines.flows ++ map Bound lines.claims) (Ends ∷ [])
+values_proper (Bounds lines) well = (
+  tt,
+  each_append IsProper (map Flow lines.flows ++ map Bound lines.claims) (Ends ∷ [])
       (each_append IsProper (map Flow lines.flows) (map Bound lines.claims)
-        (each_mapped IsProper Flow lines.flows (all_each IsFlow lines.flows well.0))
-        (each_mapped IsProper Bound lines.claims (each_claim lines.claims well.1)))
-      (tt, tt))
+      (each_mapped IsProper Flow lines.flows (all_each IsFlow lines.flows well.0))
+      (each_mapped IsProper Bound lines.claims (each_claim lines.claims well.1)))
+      (tt, tt),
+)
 values_proper (BadSiphon places) well = (tt, (well, (tt, tt)))
 values_proper (Commoner tree) well = (tt, each_append IsProper (map Tree tree) (Ends ∷ []) (each_mapped IsProper Tree tree (all_each IsTreeLine tree well.within)) (tt, tt))
 
@@ -121,10 +121,10 @@ read_more bytes rest line after progress later number h parts moves =
     let c = chained (next progress) (line_in line) later moves in
     let f = line_found line c.0 c.1 in
     let spelled_so : line ++ 10 ∷ after ≡ spelled c.0 ++ after =
-        ap (λ (xs : List ℕ). xs ++ 10 ∷ after) f.0 ∙ sym (append_assoc (front_of c.0) (10 ∷ []) after) ∙ ap (λ (xs : List ℕ). xs ++ after) (sym (spelled_is c.0)) in
+    ap (λ (xs : List ℕ). xs ++ 10 ∷ after) f.0 ∙ sym (append_assoc (front_of c.0) (10 ∷ []) after) ∙ ap (λ (xs : List ℕ). xs ++ after) (sym (spelled_is c.0)) in
     let lines : bytes_of (map spelled h.values) ++ rest ≡ bytes_of (map spelled (h.values ++ c.0 ∷ [])) ++ after =
-        ap (λ (xs : List ℕ). bytes_of (map spelled h.values) ++ xs) (parts ∙ spelled_so) ∙ sym (append_assoc (bytes_of (map spelled h.values)) (spelled c.0) after)
-        ∙ ap (λ (xs : List ℕ). xs ++ after) (ap (λ (xs : List ℕ). bytes_of (map spelled h.values) ++ xs) (sym (append-nil (spelled c.0))) ∙ sym (bytes_append (map spelled h.values) (spelled c.0 ∷ [])) ∙ sym (ap bytes_of (map_append spelled h.values (c.0 ∷ [])))) in
+    ap (λ (xs : List ℕ). bytes_of (map spelled h.values) ++ xs) (parts ∙ spelled_so) ∙ sym (append_assoc (bytes_of (map spelled h.values)) (spelled c.0) after)
+    ∙ ap (λ (xs : List ℕ). xs ++ after) (ap (λ (xs : List ℕ). bytes_of (map spelled h.values) ++ xs) (sym (append-nil (spelled c.0))) ∙ sym (bytes_append (map spelled h.values) (spelled c.0 ∷ [])) ∙ sym (ap bytes_of (map_append spelled h.values (c.0 ∷ [])))) in
     let size = length_append h.values c.0 in
     let count = h.count in
     record {
@@ -178,8 +178,8 @@ not_begun values progress front proper read stops begins =
     let reads : line_in front ≡ Some h.one = ap line_in (sym fronts) ∙ line_again h.one h.proper in
     let stopped : next progress h.one ≡ None = sym (ap (option_and_then (next progress)) reads) ∙ stops in
     let whole : Some (Ended certificate) ≡ None =
-        sym (certificate_read certificate begins.well_formed) ∙ ap (read_on Begun) h.parts ∙ read_append Begun values (h.one ∷ h.later)
-        ∙ ap (option_and_then (λ (now : Progress). read_on now (h.one ∷ h.later))) read ∙ ap (option_and_then (λ (now : Progress). read_on now h.later)) stopped in
+    sym (certificate_read certificate begins.well_formed) ∙ ap (read_on Begun) h.parts ∙ read_append Begun values (h.one ∷ h.later)
+    ∙ ap (option_and_then (λ (now : Progress). read_on now (h.one ∷ h.later))) read ∙ ap (option_and_then (λ (now : Progress). read_on now h.later)) stopped in
     absurd (cc)
 
 pub line_is_bad : (bytes rest line after : List ℕ) (progress : Progress) (number : ℕ) → ReadTo bytes rest progress number →
@@ -189,8 +189,8 @@ line_is_bad bytes rest line after progress number h parts free stops =
     let ended = line ++ 10 ∷ [] in
     let before = map spelled h.values in
     let whole : bytes ≡ bytes_of (before ++ ended ∷ later.lines) ++ later.rest =
-        h.joined ∙ ap (λ (xs : List ℕ). bytes_of before ++ xs) (parts ∙ sym (append_assoc line (10 ∷ []) after) ∙ ap (λ (xs : List ℕ). ended ++ xs) later.joined ∙ sym (append_assoc ended (bytes_of later.lines) later.rest))
-        ∙ sym (append_assoc (bytes_of before) (bytes_of (ended ∷ later.lines)) later.rest) ∙ ap (λ (xs : List ℕ). xs ++ later.rest) (sym (bytes_append before (ended ∷ later.lines))) in
+    h.joined ∙ ap (λ (xs : List ℕ). bytes_of before ++ xs) (parts ∙ sym (append_assoc line (10 ∷ []) after) ∙ ap (λ (xs : List ℕ). ended ++ xs) later.joined ∙ sym (append_assoc ended (bytes_of later.lines) later.rest))
+    ∙ sym (append_assoc (bytes_of before) (bytes_of (ended ∷ later.lines)) later.rest) ∙ ap (λ (xs : List ℕ). xs ++ later.rest) (sym (bytes_append before (ended ∷ later.lines))) in
     let each = each_append IsLine before (ended ∷ later.lines) (are_lines h.values h.proper) ((line, each_all NoFeed line free, refl), later.each) in
     record {
       before = before;
@@ -212,7 +212,7 @@ pub spelled_read : (certificate : Certificate) (bytes rest : List ℕ) (progress
 spelled_read certificate bytes rest progress number spells h free =
     let proper = values_proper certificate spells.well_formed in
     let same = same_lines (map spelled (values_of certificate)) (map spelled h.values) [] rest (are_lines (values_of certificate) proper) (are_lines h.values h.proper) tt free
-        (sym (text_lines certificate) ∙ sym spells.text ∙ h.joined) in
+    (sym (text_lines certificate) ∙ sym spells.text ∙ h.joined) in
     let values_are = one_list (values_of certificate) h.values proper h.proper same.0 in
     let reads : Some (Ended certificate) ≡ Some progress = sym (certificate_read certificate spells.well_formed) ∙ ap (read_on Begun) values_are ∙ h.read in
     ((let p : Ended certificate ≡ progress = cc in sym p), sym same.1)

@@ -1,5 +1,5 @@
 -- The text of a certificate from the texts of its parts.
-use Rattle.std.proofs.Common.{◌≡◌, refl, sym, ap, ◌∙◌, ℕ, ℤ, List, [], ◌∷◌, ◌++◌, map, append_assoc, append-nil}
+use Rattle.std.proofs.Common.{◌≡◌, refl, sym, ap, ◌∙◌, ℕ, ℤ, List, [], ◌∷◌, ◌++◌, map, append_assoc}
 use Rattle.std.specs.Prelude.{codes}
 use Rattle.std.specs.List.{flat_map}
 use Rattle.certificates.specs.declared.certificate.BoundLines.{BoundLines}
@@ -22,8 +22,8 @@ bounds_text : (old : List ℕ) (lines : BoundLines) → old ++ certificate_text 
 bounds_text old lines =
     ap (λ (xs : List ℕ). old ++ (codes "bounds\n" ++ xs))
     (ap (flat_map (λ l. l)) (append_assoc (map flow_line lines.flows) (map bound_line lines.claims) (codes "end\n" ∷ []))
-     ∙ joined_map flow_line lines.flows (map bound_line lines.claims ++ codes "end\n" ∷ [])
-     ∙ ap (λ (xs : List ℕ). flat_map flow_line lines.flows ++ xs) (joined_map bound_line lines.claims (codes "end\n" ∷ [])))
+    ∙ joined_map flow_line lines.flows (map bound_line lines.claims ++ codes "end\n" ∷ [])
+    ∙ ap (λ (xs : List ℕ). flat_map flow_line lines.flows ++ xs) (joined_map bound_line lines.claims (codes "end\n" ∷ [])))
     ∙ regroup old (codes "bounds\n") (flat_map flow_line lines.flows) (flat_map bound_line lines.claims) (codes "end\n")
 
 siphon_text : (old : List ℕ) (places : List ℕ) → old ++ certificate_text (BadSiphon places) ≡ ((old ++ codes "bad-siphon\n") ++ siphon_line places) ++ codes "end\n"

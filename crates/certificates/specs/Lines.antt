@@ -1,10 +1,9 @@
 -- The lines of certificates as values, and how a line is read: by its first word, and then by the others.
-use Rattle.std.specs.Prelude.{◌≡◌, ℕ, ◌^◌, ◌<◌, ◌≤◌, ℤ, pos, List, [], ◌∷◌, ◌++◌, drop, Option, Some, None, codes, bytes_eq}
+use Rattle.std.specs.Prelude.{ℕ, ◌^◌, ◌<◌, ◌≤◌, ℤ, pos, List, [], ◌∷◌, drop, Option, Some, None, codes, bytes_eq}
 use Rattle.std.specs.List.{find}
 use Rattle.std.specs.Option.{option_and_then, option_map}
 use Rattle.net_values.specs.declared.limits.TheConstants.{MAX_PLACES}
 use Rattle.certificates.specs.declared.certificate.Claim.{Claim}
-use Rattle.certificates.specs.declared.certificate.TreeLine.{TreeLine}
 use Rattle.certificates.specs.declared.certificate.TreeLine.TheVariants.{Split, Empty, Trap}
 use Rattle.certificates.specs.declared.line.Keyword.{Keyword}
 use Rattle.certificates.specs.declared.line.Keyword.TheVariants.{BoundsWord, BadSiphonWord, CommonerWord, FlowWord, BoundWord, SiphonWord, SplitWord, EmptyWord, TrapWord, EndWord}

@@ -12,6 +12,8 @@ mod numbers;
 mod printing;
 mod progress;
 mod reading;
+#[cfg(test)]
+mod tests;
 mod words;
 
 pub use certificate::{

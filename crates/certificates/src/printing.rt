@@ -96,11 +96,7 @@ fn push_term(text: &mut Text, term: (u32, i128)) -> Result<(), NoMemory>
 fn positive_part(number: i128) -> u128
     ensures { result ≡ positive_part number }
 {
-    if number > 0 {
-        number.unsigned_abs()
-    } else {
-        0
-    }
+    if number > 0 { number.unsigned_abs() } else { 0 }
 }
 
 /// Appends the lines of claims.

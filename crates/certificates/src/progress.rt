@@ -27,7 +27,11 @@ pub(crate) enum Progress {
 }
 
 /// The progress after a line that was cut off, where the line may follow.
-pub(crate) fn after_line(alloc: Global, progress: Progress, bytes: &[u8]) -> Result<Option<Progress>, NoMemory>
+pub(crate) fn after_line(
+    alloc: Global,
+    progress: Progress,
+    bytes: &[u8],
+) -> Result<Option<Progress>, NoMemory>
     requires { due_of progress ≤ 2 ^ 65 }
     ensures { IfOk result (λ later. later ≡ option_and_then (next progress) (line_in bytes.now)) }
 {

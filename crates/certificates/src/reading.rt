@@ -11,9 +11,7 @@ use std::alloc::Global;
 /// begins none after the lines before it; a line that is missing is counted as the one after the last.
 pub fn read(alloc: Global, bytes: &[u8]) -> Result<Certificate, ReadFault>
     ensures spelled { IfOk result (λ certificate. Spells certificate bytes.now) }
-    ensures bad {
-        IfErr result (λ fault. (number : ℕ) → fault ≡ ReadFault.BadLine number → IsBadLine bytes.now number)
-    }
+    ensures bad { IfErr result (λ fault. (number : ℕ) → fault ≡ ReadFault.BadLine number → IsBadLine bytes.now number) }
 {
     let mut progress = Progress::Begun;
     let mut number: u64 = 1;

@@ -25,10 +25,8 @@ pub(crate) fn past(bytes: &[u8]) -> &[u8]
 
 /// The first line without its line feed, and what follows it.
 pub(crate) fn next_line(bytes: &[u8]) -> Option<(&[u8], &[u8])>
-    ensures parts {
-        MatchOption result (from_first 10 bytes.now ≡ [])
-            (λ x. (x.0.now ≡ before 10 bytes.now) × (length x.1.now < length bytes.now) × (from_first 10 bytes.now ≡ 10 ∷ x.1.now))
-    }
+    ensures parts { MatchOption result (from_first 10 bytes.now ≡ [])
+        (λ x. (x.0.now ≡ before 10 bytes.now) × (length x.1.now < length bytes.now) × (from_first 10 bytes.now ≡ 10 ∷ x.1.now)) }
 {
     let (line, after) = split(b'\n', bytes);
     match after {
@@ -39,9 +37,7 @@ pub(crate) fn next_line(bytes: &[u8]) -> Option<(&[u8], &[u8])>
 
 /// The first word of what begins with a space, and what follows it.
 pub(crate) fn next_word(bytes: &[u8]) -> Option<(&[u8], &[u8])>
-    ensures words {
-        MatchOption result (words_in bytes.now ≡ []) (λ x. words_in bytes.now ≡ x.0.now ∷ words_in x.1.now)
-    }
+    ensures words { MatchOption result (words_in bytes.now ≡ []) (λ x. words_in bytes.now ≡ x.0.now ∷ words_in x.1.now) }
     ensures shorter { IfSome result (λ x. length x.1.now < length bytes.now) }
 {
     match bytes {

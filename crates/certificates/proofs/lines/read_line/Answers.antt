@@ -1,6 +1,5 @@
 -- A line is read by its first word and the others.
-use Rattle.std.proofs.Common.{rules, ◌≡◌, ◌∙◌, sym, subst, Option, Some, None, IfOk}
-use Rattle.certificates.specs.declared.line.Keyword.{Keyword}
+use Rattle.std.proofs.Common.{◌≡◌, ◌∙◌, sym, subst, Option, Some, None, IfOk}
 use Rattle.certificates.specs.declared.line.Line.{Line}
 use Rattle.certificates.specs.Lines.{keyword_in}
 use Rattle.certificates.proofs.LineReading.{line_without, line_with}

@@ -1,9 +1,9 @@
 -- Each line moves the progress on or is the bad one; at the end the progress is a certificate, or the next line is bad.
-use Rattle.std.proofs.Common.{rules, ◌≡◌, ◌∙◌, sym, subst, ℕ, ◌+◌, ◌≤◌, [], ◌∷◌, Some, None, length, arith}
+use Rattle.std.proofs.Common.{rules, ◌≡◌, ◌∙◌, sym, subst, ◌+◌, ◌≤◌, [], ◌∷◌, Some, None, length, arith}
 use Rattle.std.specs.Option.{option_and_then}
 use Rattle.certificates.specs.BadLines.{IsBadLine}
 use Rattle.certificates.specs.Lines.{line_in}
-use Rattle.certificates.specs.Moves.{next, due_of}
+use Rattle.certificates.specs.Moves.{next}
 use Rattle.certificates.specs.Words.{before, from_first}
 use Rattle.certificates.proofs.DueTrees.{due_after}
 use Rattle.certificates.proofs.ReadLines.{read_more, line_is_bad, end_is_bad, end_spells, line_parts, line_free, rest_free, nothing_left}
@@ -33,9 +33,11 @@ lines-preserved c =
     let moves : option_and_then (next c.lines.progress) (line_in line) ≡ Some c.in-Some-2.later = sym c.in_ok-later.ensures ∙ c.in-Some-2.is in
     let more = due_after c.lines.progress (line_in line) c.in-Some-2.later moves in
     let due = c.lines.invariant.1 in
-    let room = c.lines.invariant.2 in
-    (read_more c.args.bytes.now rest line after c.lines.progress c.in-Some-2.later c.lines.number c.lines.invariant.0 (line_parts rest line after first behind) moves,
-     omega (arith, more, due), omega (arith, room, shorter))
+    let room = c.lines.invariant.2 in (
+      read_more c.args.bytes.now rest line after c.lines.progress c.in-Some-2.later c.lines.number c.lines.invariant.0 (line_parts rest line after first behind) moves,
+      omega (arith, more, due),
+      omega (arith, room, shorter),
+    )
 
 pub returns-in-Ended-clause-spelled : goal.returns-in-Ended-clause-spelled
 returns-in-Ended-clause-spelled c =
