@@ -1,5 +1,5 @@
 -- The parts of a bound certificate as they are made: one row more, and the whole.
-use Rattle.std.proofs.Common.{◌≡◌, refl, sym, ap, ◌∙◌, subst, ℕ, ◌+◌, ◌<◌, ◌≤◌, ℤ, Bool, IsTrue, List, [], ◌∷◌, ◌++◌, Option, length, length-append, get_or, slice_index, inl, inr, arith}
+use Rattle.std.proofs.Common.{◌≡◌, sym, ap, ◌∙◌, subst, ℕ, ◌+◌, ℤ, Bool, List, [], ◌∷◌, ◌++◌, Option, length, length-append, get_or, slice_index, inl, inr, arith}
 use Rattle.std.proofs.lemmas.Bool.{cases_eq}
 use Rattle.std.proofs.lemmas.List.{get_or_append_left, get_or_push}
 use Rattle.bounds.specs.declared.place_bound.PlaceBound.{PlaceBound}

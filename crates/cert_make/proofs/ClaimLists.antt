@@ -1,5 +1,5 @@
 -- The claims of the bounded places, and that the whole certificate is well formed and accepted.
-use Rattle.std.proofs.Common.{◌≡◌, refl, sym, ap, ◌∙◌, subst, ℕ, zero, suc, ◌+◌, ◌-◌, ◌/◌, ◌^◌, ◌<◌, ◌≤◌, ℤ, pos, Bool, true, false, IsTrue, List, [], ◌∷◌, ◌++◌, Option, None, Some, MatchOption, length, get_or, slice_index, add-one, inl, inr, All, AllPairs, arith}
+use Rattle.std.proofs.Common.{◌≡◌, refl, sym, ap, ◌∙◌, subst, ℕ, zero, suc, ◌+◌, ◌-◌, ◌/◌, ◌^◌, ◌<◌, ◌≤◌, ℤ, pos, IsTrue, List, [], ◌∷◌, ◌++◌, Option, None, Some, MatchOption, length, get_or, add-one, All, AllPairs, arith}
 use Rattle.std.proofs.lemmas.Bool.{eq-eqb}
 use Rattle.std.proofs.lemmas.List.{append-nil}
 use Rattle.std.proofs.lemmas.List.Elements.{All-push, Contains-get_or}
@@ -8,7 +8,6 @@ use Rattle.std.specs.Cmp.Lexicographic.{slice_cmp}
 use Rattle.std.specs.Ordering.{nat_cmp}
 use Rattle.net_values.specs.Net.{Net}
 use Rattle.net_values.specs.TheList.{IsTheList}
-use Rattle.net_values.specs.Vectors.{positive_part}
 use Rattle.net_values.specs.declared.limits.TheConstants.{MAX_PLACES}
 use Rattle.closed_sets.proofs.Below.{any_at}
 use Rattle.incidence.specs.Invariance.{weighted_tokens}
@@ -16,10 +15,8 @@ use Rattle.incidence.specs.Matrix.{incidence_of}
 use Rattle.incidence.specs.Semiflow.{all_columns}
 use Rattle.semiflow_elim.specs.Bases.{IsMinimalRow}
 use Rattle.bounds.specs.declared.place_bound.PlaceBound.{PlaceBound}
-use Rattle.bounds.specs.LeastBound.{bound_by}
-use Rattle.bounds.specs.Listed.{kept_at, row_at, told, IsFirstLeast, IsLeastOfRows, NameFirstRows, AreNarrowRows, AreNarrow}
+use Rattle.bounds.specs.Listed.{kept_at, row_at, told, IsFirstLeast, IsLeastOfRows, NameFirstRows, AreNarrowRows}
 use Rattle.bounds.proofs.AllPlaces.{all_narrow}
-use Rattle.certificates.specs.declared.certificate.Certificate.TheVariants.{Bounds}
 use Rattle.certificates.specs.declared.certificate.Claim.{Claim}
 use Rattle.certificates.specs.Conditions.{vector_of, flow_of, FlowHolds, ClaimHolds, IsAccepted}
 use Rattle.certificates.specs.WellFormed.{IsFlow, AreClaims, IsNumberFrom, IsWellFormed}

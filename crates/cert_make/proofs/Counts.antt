@@ -1,6 +1,6 @@
 -- No more rows are named than there are places, since each place names one at most. So the numbers of flows are
 -- small.
-use Rattle.std.proofs.Common.{◌≡◌, refl, sym, ap, ◌∙◌, subst, ℕ, zero, suc, ◌+◌, ◌^◌, ◌<◌, ◌≤◌, ◌||◌, ℤ, Bool, true, false, IsTrue, cond, eqb, List, [], ◌∷◌, ◌++◌, Option, None, Some, length, length-append, inl, inr, arith}
+use Rattle.std.proofs.Common.{◌≡◌, refl, ap, ℕ, zero, suc, ◌+◌, ◌<◌, ◌≤◌, ◌||◌, ℤ, Bool, true, false, cond, eqb, List, [], ◌∷◌, Option, None, Some, length, length-append, inl, inr, arith}
 use Rattle.std.proofs.lemmas.Bool.{cases_Bool, cases_eq, eq-eqb, ne_eqb}
 use Rattle.net_values.specs.declared.limits.TheConstants.{MAX_PLACES}
 use Rattle.closed_sets.specs.ClosedSets.{any_below}

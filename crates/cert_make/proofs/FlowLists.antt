@@ -1,5 +1,5 @@
 -- The flows of the named rows: each is that of its row, and a named row's flow occurs at the row's number.
-use Rattle.std.proofs.Common.{◌≡◌, refl, sym, ap, ◌∙◌, subst, ℕ, zero, suc, ◌+◌, ◌<◌, ◌≤◌, ℤ, Bool, true, false, IsTrue, cond, List, [], ◌∷◌, ◌++◌, length, length-append, get_or, add-one, inl, inr, All, arith}
+use Rattle.std.proofs.Common.{◌≡◌, refl, sym, ap, ◌∙◌, subst, ℕ, zero, suc, ◌+◌, ◌<◌, ℤ, Bool, false, IsTrue, cond, List, [], ◌∷◌, ◌++◌, length, length-append, get_or, add-one, inl, inr, All, arith}
 use Rattle.std.proofs.lemmas.Bool.{cases_Bool, cases_eq}
 use Rattle.std.proofs.lemmas.List.{get_or_append_left, get_or_push}
 use Rattle.std.proofs.lemmas.List.Elements.{All-push}

@@ -1,20 +1,19 @@
 -- A live class is parted at the next place of the growth: a siphon that is grown in it lacks the place and is grown
 -- in the part without it, or has it and is grown in the part with it, since the growth then takes that place next.
-use Rattle.std.proofs.Common.{◌≡◌, ◌↔◌, ◌⊎◌, refl, sym, ap, ◌∙◌, subst, ℕ, ◌+◌, ◌-◌, ◌<◌, ◌≤◌, ◌==◌, ◌||◌, List, [], ◌∷◌, ◌++◌, Bool, true, false, IsTrue, not, ltb, eqb, cond, length, set, length-set, inl, inr, arith}
+use Rattle.std.proofs.Common.{◌≡◌, ◌↔◌, ◌⊎◌, refl, sym, ap, ◌∙◌, subst, ℕ, ◌+◌, ◌-◌, ◌<◌, ◌≤◌, ◌==◌, ◌||◌, List, [], ◌∷◌, ◌++◌, Bool, true, false, IsTrue, not, ltb, cond, length, set, length-set, inl, inr, arith}
 use Rattle.std.proofs.Math.Bool.{or-false}
-use Rattle.std.proofs.lemmas.Bool.{cases_lt, or_cases, or_left, or_right, eq-eqb, eqb-true, ltb-true, lt-ltb, and_from, and_parts, both_ways, cases_Bool, not-true, not_from_false}
-use Rattle.std.proofs.lemmas.List.{get_or_past}
+use Rattle.std.proofs.lemmas.Bool.{or_cases, or_left, or_right, eq-eqb, eqb-true, ltb-true, and_from, and_parts, both_ways, cases_Bool, not-true, not_from_false}
 use Rattle.std.proofs.lemmas.List.Sums.{sum_by-set, count_by-le-length}
 use Rattle.net_values.specs.Net.{Net}
 use Rattle.net_values.specs.PlaceSets.{has}
 use Rattle.closed_sets.specs.ClosedSets.{has_input_in, has_output_in, IsSiphon, IsNonempty}
-use Rattle.closed_sets.specs.Growth.{IsFirst, is_open, is_input_in, with_place, only_place, Belongs, GrowsWhole, more, IsGrown, IsGrownIn}
+use Rattle.closed_sets.specs.Growth.{IsFirst, is_input_in, with_place, only_place, Belongs, GrowsWhole, more, IsGrownIn}
 use Rattle.closed_sets.specs.Passes.{members}
 use Rattle.closed_sets.proofs.Below.{any_at, any_from, pair_at, pair_from}
 use Rattle.closed_sets.proofs.Firsts.{first_same}
 use Rattle.closed_sets.proofs.GreatestSiphons.{greatest_there}
 use Rattle.siphon_branch.specs.Classes.{IsLiveClass}
-use Rattle.siphon_branch.specs.Met.{Adds, Meets, Overruns, IsGrownFrom}
+use Rattle.siphon_branch.specs.Met.{Meets, Overruns, IsGrownFrom}
 use Rattle.siphon_branch.proofs.Growths.{same_growth, growth_next}
 use Rattle.siphon_branch.proofs.Lists.{adds_on, some_on, adds_same, some_within, adds_nothing}
 use Rattle.siphon_branch.proofs.Parts.{placed, leaf_meets, leaf_over}

@@ -1,6 +1,6 @@
 -- A tree that is split at every place in order: at its leaves each place is in one of the two sets, so the contained
 -- set is a nonempty siphon, and has a marked trap in it, or no nonempty siphon belongs to the class.
-use Rattle.std.proofs.Common.{◌≡◌, ◌⊎◌, refl, sym, ap, ◌∙◌, subst, ℕ, zero, suc, ◌+◌, ◌<◌, ◌≤◌, ◌==◌, ◌||◌, List, [], ◌∷◌, ◌++◌, Bool, true, false, IsTrue, not, inl, inr, arith}
+use Rattle.std.proofs.Common.{◌≡◌, ◌⊎◌, refl, ◌∙◌, subst, ℕ, zero, suc, ◌+◌, ◌<◌, ◌≤◌, ◌==◌, List, [], ◌∷◌, ◌++◌, Bool, false, IsTrue, inl, inr, arith}
 use Rattle.std.proofs.lemmas.Bool.{cases_Bool, cases_eq, both_ways, or_left, or_right, eq-eqb, ne_eqb, and_parts, not-true}
 use Rattle.net_values.specs.Net.{Net}
 use Rattle.net_values.specs.declared.limits.TheConstants.{MAX_PLACES}

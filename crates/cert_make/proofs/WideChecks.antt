@@ -1,5 +1,5 @@
 -- Whether the named rows are narrow is decided, row by row and column by column; else there is a first wide check.
-use Rattle.std.proofs.Common.{◌≡◌, ◌⊎◌, ℕ, zero, suc, ◌+◌, ◌^◌, ◌<◌, ◌≤◌, List, Bool, IsTrue, length, subst, inl, inr, arith}
+use Rattle.std.proofs.Common.{◌⊎◌, ℕ, zero, suc, ◌^◌, ◌<◌, ◌≤◌, List, Bool, IsTrue, length, subst, inl, inr, arith}
 use Rattle.std.proofs.lemmas.Bool.{cases_Bool, cases_lt, cases_eq, both_ways}
 use Rattle.net_values.specs.Net.{Net}
 use Rattle.incidence.specs.Matrix.{AreNarrow, gain_sum, loss_sum, incidence_of}

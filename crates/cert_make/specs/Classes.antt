@@ -1,5 +1,5 @@
 -- Classes of siphons while a tree is made: the place at which one is parted, and the siphons that are grown in it.
-use Rattle.std.specs.Prelude.{◌≡◌, ℕ, ◌<◌, ◌⊎◌, ◌&&◌, nat_lt, List, Bool, false, length, not}
+use Rattle.std.specs.Prelude.{◌≡◌, ℕ, ◌⊎◌, ◌&&◌, nat_lt, List, Bool, false, length, not}
 use Rattle.net_values.specs.Net.{Net}
 use Rattle.net_values.specs.PlaceSets.{has}
 use Rattle.closed_sets.specs.ClosedSets.{IsSiphon, IsNonempty}

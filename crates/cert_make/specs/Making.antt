@@ -2,7 +2,7 @@
 use Rattle.std.specs.Prelude.{◌≡◌, ◌^◌, ℕ, ◌<◌, Bool, IsTrue, List, [], length, slice_index, slice_index_or}
 use Rattle.net_values.specs.Net.{Net}
 use Rattle.net_values.specs.Vectors.{IsVector}
-use Rattle.cert_make.specs.BoundCertificates.{number_of, IsNarrow, IsFirstWide}
+use Rattle.cert_make.specs.BoundCertificates.{number_of, IsFirstWide}
 use Rattle.cert_make.specs.declared.fault.BoundCertFault.{BoundCertFault}
 use Rattle.cert_make.specs.declared.fault.BoundCertFault.TheVariants.{NoMemory, WideCheck}
 

@@ -10,6 +10,8 @@ mod fault;
 mod flows;
 mod laws;
 mod next_place;
+#[cfg(test)]
+mod tests;
 
 pub use bad_siphon::bad_siphon_certificate;
 pub use bound_lines::bound_certificate;

@@ -1,13 +1,12 @@
-use Rattle.std.proofs.Common.{◌≡◌, ◌<◌, ◌≤◌, sym, ap, ◌∙◌, subst, Result, Err, List, [], ◌∷◌, ◌++◌, Bool, true, false, length, arith, rules}
+use Rattle.std.proofs.Common.{◌≡◌, ◌<◌, sym, ap, ◌∙◌, subst, Result, Err, [], ◌∷◌, true, false, arith, rules}
 use Rattle.std.proofs.lemmas.Bool.{both_ways}
 use Rattle.std.proofs.lemmas.Result.{err_from_is_err_and}
 use Rattle.net_values.specs.FlatNets.{net_of}
 use Rattle.net_values.specs.PlaceSets.{has}
 use Rattle.siphon_branch.specs.Met.{Meets, Overruns}
 use Rattle.siphon_branch.proofs.Lists.{adds_sizes, on_ok_map}
-use Rattle.certificates.specs.declared.certificate.TreeLine.{TreeLine}
-use Rattle.certificates.specs.declared.certificate.TreeLine.TheVariants.{Split, Empty, Trap}
-use Rattle.certificates.specs.Conditions.{SiphonClass, without, containing}
+use Rattle.certificates.specs.declared.certificate.TreeLine.TheVariants.{Empty, Trap}
+use Rattle.certificates.specs.Conditions.{SiphonClass, without}
 use Rattle.cert_make.specs.declared.class.Class.{Class}
 use Rattle.cert_make.specs.declared.fault.Stop.{Stop}
 use Rattle.cert_make.specs.declared.fault.Stop.TheVariants.{SetLimit}
