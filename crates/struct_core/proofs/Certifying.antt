@@ -1,5 +1,5 @@
 -- What a certificate that was made or checked is to the outcome, and what each refusal is.
-use Rattle.std.proofs.Common.{◌≡◌, ℕ, ◌≤◌, List, ◌++◌, Option, refl, sym, ap, subst, ◌∙◌, arith, inl, inr, length, IsErrAnd}
+use Rattle.std.proofs.Common.{◌≡◌, ℕ, List, ◌++◌, Option, sym, ap, subst, ◌∙◌, arith, inl, inr, length, IsErrAnd}
 use Rattle.std.specs.Prelude.{Bool, Result, IfErr, ◌↔◌}
 use Rattle.std.specs.Cmp.Lexicographic.{slice_cmp}
 use Rattle.std.specs.Ordering.{bool_cmp}

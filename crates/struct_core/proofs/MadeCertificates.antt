@@ -1,6 +1,6 @@
 -- What is written for a certificate is read back: the canonical text is the first line and spells the document, and the
 -- certificate is well formed and accepted.
-use Rattle.std.proofs.Common.{◌≡◌, ◌⊎◌, ℕ, ◌≤◌, List, ◌++◌, refl, sym, ap, subst, ◌∙◌, arith, inl, inr}
+use Rattle.std.proofs.Common.{◌≡◌, ℕ, ◌≤◌, List, ◌++◌, refl, sym, ap, subst, ◌∙◌, arith, inl, inr}
 use Rattle.net_values.specs.declared.document.Document.{Document}
 use Rattle.net_values.specs.declared.limits.TheConstants.{MAX_PLACES}
 use Rattle.net_values.specs.FlatNets.{NetLists, net_of}
@@ -21,7 +21,7 @@ use Rattle.struct_core.specs.declared.order.Task.{Task}
 use Rattle.struct_core.specs.declared.order.Task.TheVariants as tasks
 use Rattle.struct_core.specs.declared.order.Budgets.{Budgets}
 use Rattle.struct_core.specs.declared.order.Order.TheVariants.{Run}
-use Rattle.struct_core.specs.Certificates.{CertBoundOutcome, certified, wide_check, no_bounds, CertVerdictOutcome, certified_verdict, no_verdict, VerifyOutcome, accepted}
+use Rattle.struct_core.specs.Certificates.{CertBoundOutcome, certified, wide_check, no_bounds, CertVerdictOutcome, certified_verdict, no_verdict, accepted}
 use Rattle.struct_core.specs.Inputs.{front_of, rest_of, first_line, after_first_line}
 use Rattle.struct_core.specs.Laws.{MadeCertificatesAreAccepted}
 use Rattle.struct_core.specs.Outcome.{TaskOutcome, Profile, Outcome, no_document, broken, answer}

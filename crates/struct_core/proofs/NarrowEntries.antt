@@ -1,7 +1,7 @@
 -- Where both sums of a minimal semiflow are narrow at each transition, so is each entry: a place with an arc that
 -- counts occurs in a sum, and a place without one is a semiflow alone, so that it is the only one, with the entry 1.
-use Rattle.std.proofs.Common.{◌≡◌, ◌≢◌, ℕ, zero, suc, ◌+◌, ◌*◌, ◌^◌, ◌<◌, ◌≤◌, List, [], length, get_or, refl, sym, ap, subst, ◌∙◌, arith, inl, inr}
-use Rattle.std.specs.Prelude.{Bool, ◌==◌, true, false, if◌then◌else◌, slice_index, slice_index_or, Option}
+use Rattle.std.proofs.Common.{◌≡◌, ◌≢◌, ℕ, zero, suc, ◌+◌, ◌*◌, ◌^◌, ◌<◌, ◌≤◌, List, [], length, refl, sym, ap, subst, ◌∙◌, arith, inl, inr}
+use Rattle.std.specs.Prelude.{Bool, ◌==◌, true, false, if◌then◌else◌, slice_index, slice_index_or}
 use Rattle.std.specs.Int.{◌∣◌}
 use Rattle.std.specs.Cmp.Lexicographic.{slice_cmp}
 use Rattle.std.specs.Ordering.{nat_cmp}
@@ -13,7 +13,6 @@ use Rattle.std.proofs.lemmas.Nat.Gcd.{dvd_refl, dvd-zero}
 use Rattle.net_values.specs.declared.limits.TheConstants.{MAX_PLACES}
 use Rattle.net_values.specs.Net.{Net}
 use Rattle.net_values.specs.TheList.{IsTheList}
-use Rattle.net_values.specs.Vectors.{IsVector}
 use Rattle.cert_make.specs.BoundCertificates.{AreNarrowFlows}
 use Rattle.cert_make.specs.Making.{AreVectors}
 use Rattle.incidence.specs.Matrix.{Matrix, AreNarrow, positive_at, negative_at, incidence_of}

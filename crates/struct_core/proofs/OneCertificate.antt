@@ -1,6 +1,6 @@
 -- A net has one certificate of its bounds, and bytes have one answer to whether they spell a certificate that the net
 -- accepts. Only the tree of a certificate for Commoner's condition is free.
-use Rattle.std.proofs.Common.{◌≡◌, ◌≢◌, ◌⊎◌, ℕ, ◌<◌, ◌≤◌, List, ◌++◌, Option, Some, None, length, refl, sym, ap, subst, ◌∙◌, arith, inl, inr}
+use Rattle.std.proofs.Common.{◌≡◌, ◌≢◌, ◌⊎◌, ℕ, ◌≤◌, List, ◌++◌, Option, Some, None, length, refl, sym, ap, subst, ◌∙◌, arith, inl, inr}
 use Rattle.std.specs.Prelude.{Bool, codes}
 use Rattle.std.proofs.lemmas.Bool.{cases_lt}
 use Rattle.std.proofs.lemmas.List.{same_lists, get_or_default}
@@ -15,7 +15,7 @@ use Rattle.certificates.specs.BadLines.{Spells}
 use Rattle.certificates.specs.Conditions.{IsAccepted, IsFalseLine, LineHolds}
 use Rattle.certificates.specs.Spelling.{certificate_text}
 use Rattle.cert_make.specs.BoundCertificates.{bounds_certificate, is_named, IsFirstWide, AreNarrowFlows, IsFirstWideCheck}
-use Rattle.incidence.specs.Matrix.{AreNarrow, incidence_of}
+use Rattle.incidence.specs.Matrix.{incidence_of}
 use Rattle.net_class.specs.declared.verdict.Verdict.{Verdict}
 use Rattle.net_class.specs.declared.verdict.Verdict.TheVariants.{Yes, No}
 use Rattle.pnml_grammar.specs.Canon.{canon}
@@ -26,7 +26,7 @@ use Rattle.report.specs.VerdictTexts.{CommonerSuffices, deadlock_line}
 use Rattle.report.specs.VerifiedTexts.{IsVerifiedText}
 use Rattle.struct_core.specs.Certificates.{CertBoundOutcome, certified, wide_check, no_bounds, IsOfVerdict, CertVerdictOutcome, certified_verdict, no_verdict, VerifyOutcome, malformed, rejected, accepted}
 use Rattle.struct_core.specs.Determined.{DifferInTree}
-use Rattle.struct_core.specs.Verdicts.{AreBounds, BoundOutcome, all_bounds, IsVerdict}
+use Rattle.struct_core.specs.Verdicts.{AreBounds, BoundOutcome, all_bounds}
 use Rattle.certificates.proofs.OneReading.{one_reading}
 use Rattle.struct_core.proofs.OneListing.{one_semiflow_list, few_or_passed, one_passing}
 use Rattle.struct_core.proofs.OneVerdict.{one_bound_outcome, one_verdict}

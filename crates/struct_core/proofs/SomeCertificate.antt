@@ -1,8 +1,8 @@
 -- Every net has an outcome of `cert-bounds` and `cert-commoner`, and every net and bytes of `verify`: the semiflows that
 -- give bounds have a first wide sum or none, a net that meets Commoner's condition has a tree, and one that doesn't a
 -- siphon; bytes spell a certificate or have a bad line, and a certificate is accepted or has a false one.
-use Rattle.std.proofs.Common.{◌≡◌, ◌⊎◌, ℕ, zero, suc, ◌^◌, ◌<◌, ◌≤◌, List, ◌++◌, length, refl, sym, ap, subst, ◌∙◌, arith, inl, inr}
-use Rattle.std.specs.Prelude.{Bool, IsTrue, codes}
+use Rattle.std.proofs.Common.{◌⊎◌, ℕ, ◌≤◌, List, ◌++◌, length, refl, sym, ap, subst, ◌∙◌, arith, inl, inr}
+use Rattle.std.specs.Prelude.{Bool, codes}
 use Rattle.net_values.specs.declared.document.Document.{Document}
 use Rattle.net_values.specs.declared.flat_net.FlatPlace.{FlatPlace}
 use Rattle.net_values.specs.declared.limits.TheConstants.{MAX_PLACES}
@@ -25,11 +25,11 @@ use Rattle.pnml_grammar.specs.Documents.{DocBytes}
 use Rattle.page_flatten.specs.Flat.{Flat}
 use Rattle.page_flatten.proofs.Decisions.{Decided}
 use Rattle.page_flatten.proofs.NodeLaws.{places_counted}
-use Rattle.siphon_branch.specs.Limits.{AtMostOrMore, HasAtMostGrown, IsGrownSet}
+use Rattle.siphon_branch.specs.Limits.{AtMostOrMore, IsGrownSet}
 use Rattle.report.specs.FaultLines.{wide_check_line, wide_bound_line, limit_line, malformed_line, rejected_line}
 use Rattle.report.specs.VerdictTexts.{CommonerSuffices, deadlock_line}
 use Rattle.report.specs.VerifiedTexts.{IsVerifiedText}
-use Rattle.struct_core.specs.Certificates.{CertBoundOutcome, certified, wide_check, no_bounds, IsOfVerdict, CertifiesVerdict, CertVerdictOutcome, certified_verdict, no_verdict, VerifyOutcome, malformed, rejected, accepted}
+use Rattle.struct_core.specs.Certificates.{CertBoundOutcome, certified, wide_check, no_bounds, CertifiesVerdict, CertVerdictOutcome, certified_verdict, no_verdict, VerifyOutcome, malformed, rejected, accepted}
 use Rattle.struct_core.specs.Determined.{IsEliminationDecided}
 use Rattle.struct_core.specs.Enumerations.{AreListed, set_limit}
 use Rattle.struct_core.specs.Verdicts.{AreBounds, IsVerdict, wide_bound, no_semiflows}

@@ -6,9 +6,6 @@ use Rattle.net_values.specs.declared.document.Document.{Document}
 use Rattle.net_values.specs.Net.{Net}
 use Rattle.net_values.specs.FlatNets.{NetLists, net_of}
 use Rattle.incidence.specs.Matrix.{Matrix, incidence_of}
-use Rattle.semiflow_elim.specs.declared.fault.ElimFault.{ElimFault}
-use Rattle.semiflow_elim.specs.declared.fault.ElimFault.TheVariants as faults
-use Rattle.semiflow_elim.specs.FirstFail.{IsFirstFail}
 use Rattle.pnml_grammar.specs.Canon.{canon}
 use Rattle.pnml_grammar.specs.Documents.{DocBytes}
 use Rattle.pnml_grammar.specs.FirstFault.{Fault, FirstFault}
@@ -25,8 +22,8 @@ use Rattle.struct_core.specs.declared.order.Task.{Task}
 use Rattle.struct_core.specs.declared.order.Task.TheVariants as tasks
 use Rattle.struct_core.specs.declared.order.Budgets.{Budgets}
 use Rattle.struct_core.specs.declared.order.Order.TheVariants.{Run}
-use Rattle.report.specs.FaultLines.{document_line, rule_line, wide_sum_line, wide_row_line, budget_line, limit_line, wide_bound_line}
-use Rattle.struct_core.specs.Enumerations.{AreListed, FailedStep, wide_sum, wide_row, row_budget, SemiflowOutcome, all_semiflows, step_fails, SetOutcome, all_sets, passes_limit, set_limit}
+use Rattle.report.specs.FaultLines.{document_line, rule_line, limit_line, wide_bound_line}
+use Rattle.struct_core.specs.Enumerations.{AreListed, SemiflowOutcome, all_semiflows, step_fails, SetOutcome, all_sets, passes_limit, set_limit}
 use Rattle.struct_core.specs.Outcome.{TaskOutcome, Profile, Outcome, no_document, broken, answer}
 use Rattle.struct_core.specs.Determined.{IsEliminationDecided, IsDecided, HasSomeOutcome}
 use Rattle.struct_core.specs.Laws.{CanonStays}

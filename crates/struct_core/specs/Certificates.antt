@@ -1,6 +1,6 @@
 -- What `cert-bounds`, `cert-commoner` and `verify` tell of a net. What the first two write is what `verify` reads: the
 -- canonical text of the document, which is one line, and after it a certificate.
-use Rattle.std.specs.Prelude.{◌≡◌, ◌≢◌, ℕ, List, Bool, Option, ◌++◌, length}
+use Rattle.std.specs.Prelude.{◌≡◌, ◌≢◌, ℕ, List, Option, ◌++◌, length}
 use Rattle.net_values.specs.Net.{Net}
 use Rattle.net_values.specs.PlaceSets.{has}
 use Rattle.bounds.specs.declared.place_bound.PlaceBound.{PlaceBound}
