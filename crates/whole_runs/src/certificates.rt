@@ -57,7 +57,12 @@ type Accepted = (&'static str, Net, &'static [u8], &'static [u8]);
 
 const ACCEPTED: [Accepted; 4] = [
     ("bounds", CYCLE, OF_BOUNDS, b"accepted bounds\n"),
-    ("a tree", CYCLE, TREE, b"accepted commoner\ndeadlock-free proved\n"),
+    (
+        "a tree",
+        CYCLE,
+        TREE,
+        b"accepted commoner\ndeadlock-free proved\n",
+    ),
     ("a siphon", LINE, OF_SIPHON, b"accepted bad-siphon\n"),
     (
         "numbers of 2^127 - 1",
