@@ -74,6 +74,10 @@ wide_row_line id = wide_line (codes "wide row") id
 unfoldable pub wide_bound_line : ℕ → List ℕ
 wide_bound_line row = joined (codes "wide bound in semiflow " ∷ decimal (row + 1) ∷ codes "\n" ∷ [])
 
+-- a sum of a semiflow at the column of an id is out of range
+unfoldable pub wide_check_line : ℕ → List ℕ → List ℕ
+wide_check_line row id = joined (codes "wide sum in semiflow " ∷ decimal (row + 1) ∷ codes " at " ∷ id ∷ codes "\n" ∷ [])
+
 -- an elimination has more candidates at the column of an id than the budget
 unfoldable pub budget_line : ℕ → List ℕ → ℕ → List ℕ
 budget_line budget id count =
@@ -82,6 +86,16 @@ budget_line budget id count =
 -- there are more grown siphons or traps than the limit
 unfoldable pub limit_line : ℕ → List ℕ
 limit_line limit = joined (codes "set limit " ∷ decimal limit ∷ codes " passed\n" ∷ [])
+
+-- a line of a certificate, counted from 1, is bad
+unfoldable pub certificate_line : List ℕ → ℕ → List ℕ
+certificate_line words number = joined (codes "certificate " ∷ words ∷ codes " at line " ∷ decimal number ∷ codes "\n" ∷ [])
+
+abbrev pub malformed_line : ℕ → List ℕ
+malformed_line number = certificate_line (codes "malformed") number
+
+abbrev pub rejected_line : ℕ → List ℕ
+rejected_line number = certificate_line (codes "rejected") number
 
 -- the words mean nothing, the input is too long, a device failed
 abbrev pub usage_line : List ℕ

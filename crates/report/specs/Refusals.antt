@@ -6,10 +6,10 @@ use Rattle.pnml_decode.specs.declared.fault.DocFault.{DocFault}
 use Rattle.pnml_decode.specs.declared.fault.DocFault.TheVariants as documents
 use Rattle.pnml_grammar.specs.FirstFault.{not_utf8, at, truncated}
 use Rattle.report.specs.declared.refusal.Refusal.{Refusal}
-use Rattle.report.specs.declared.refusal.Refusal.TheVariants.{Usage, Document, Rule, Excess as Exceeds, TooLong, ReadFault, WriteFault, NoMemory}
+use Rattle.report.specs.declared.refusal.Refusal.TheVariants.{Usage, Document, Rule, Excess as Exceeds, Malformed, Rejected, TooLong, ReadFault, WriteFault, NoMemory}
 use Rattle.report.specs.declared.refusal.Excess.{Excess}
-use Rattle.report.specs.declared.refusal.Excess.TheVariants.{WideSum, WideRow, WideBound, RowBudget, SetLimit}
-use Rattle.report.specs.FaultLines.{document_line, rule_line, wide_sum_line, wide_row_line, wide_bound_line, budget_line, limit_line, usage_line, length_line, read_line, write_line, memory_line}
+use Rattle.report.specs.declared.refusal.Excess.TheVariants.{WideSum, WideRow, WideBound, WideCheck, RowBudget, SetLimit}
+use Rattle.report.specs.FaultLines.{document_line, rule_line, wide_sum_line, wide_row_line, wide_bound_line, wide_check_line, budget_line, limit_line, malformed_line, rejected_line, usage_line, length_line, read_line, write_line, memory_line}
 
 abbrev pub document_status : DocFault → ℕ
 document_status documents.NoMemory = 10
@@ -29,6 +29,7 @@ abbrev pub excess_status : Excess → ℕ
 excess_status (WideSum id) = 4
 excess_status (WideRow id) = 4
 excess_status (WideBound row) = 4
+excess_status (WideCheck row id) = 4
 excess_status (RowBudget budget id count) = 5
 excess_status (SetLimit limit) = 6
 
@@ -37,6 +38,8 @@ status_of Usage = 2
 status_of (Document fault) = document_status fault
 status_of (Rule fault) = rule_status fault
 status_of (Exceeds excess) = excess_status excess
+status_of (Malformed number) = 1
+status_of (Rejected number) = 1
 status_of TooLong = 7
 status_of ReadFault = 8
 status_of WriteFault = 9
@@ -52,6 +55,7 @@ abbrev pub excess_line : Excess → List ℕ
 excess_line (WideSum id) = wide_sum_line id
 excess_line (WideRow id) = wide_row_line id
 excess_line (WideBound row) = wide_bound_line row
+excess_line (WideCheck row id) = wide_check_line row id
 excess_line (RowBudget budget id count) = budget_line budget id count
 excess_line (SetLimit limit) = limit_line limit
 
@@ -60,6 +64,8 @@ line_of Usage = usage_line
 line_of (Document fault) = fault_line fault
 line_of (Rule fault) = rule_line fault
 line_of (Exceeds excess) = excess_line excess
+line_of (Malformed number) = malformed_line number
+line_of (Rejected number) = rejected_line number
 line_of TooLong = length_line
 line_of ReadFault = read_line
 line_of WriteFault = write_line

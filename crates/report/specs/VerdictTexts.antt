@@ -25,7 +25,12 @@ verdict_lines ids (No siphon) = answer_line (codes "commoner") false ++ siphon_l
 abbrev pub deadlock_line : Bool → List ℕ
 deadlock_line is_proved = if is_proved then codes "deadlock-free proved\n" else codes "deadlock-free unknown\n"
 
--- a yes proves that in an ordinary net with a transition (Murata 1989)
+-- Commoner's condition proves it in an ordinary net with a transition (Murata 1989)
+pub record CommonerSuffices (net : Net) : Type 0 where
+  pub ordinary : IsOrdinary net
+  pub some_transition : 0 < net.transitions
+
+-- a yes proves it there
 pub record ProvesDeadlockFree (net : Net) (verdict : Verdict) : Type 0 where
   pub yes : verdict ≡ Yes
   pub ordinary : IsOrdinary net

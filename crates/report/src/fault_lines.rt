@@ -1,6 +1,6 @@
 ghost use Rattle.std.specs.Prelude.{map};
 ghost use Rattle.pnml_source.specs.Writing.{IsWritten};
-ghost use Rattle.report.specs.FaultLines.{joined, offset_line, id_line, unknown_line, rule_line, wide_line, wide_bound_line, budget_line, limit_line};
+ghost use Rattle.report.specs.FaultLines.{joined, offset_line, id_line, unknown_line, rule_line, wide_line, wide_bound_line, wide_check_line, certificate_line, budget_line, limit_line};
 ghost use Rattle.report.specs.Refusals.{line_of, fault_line, excess_line};
 
 use crate::reason_words::reason_words;
@@ -23,6 +23,8 @@ pub fn tell<O: Sink>(sink: &mut O, refusal: &Refusal) -> Result<(), WriteFault>
         Refusal::Document(fault) => tell_document(sink, fault),
         Refusal::Rule(fault) => tell_rule(sink, fault),
         Refusal::Excess(excess) => tell_excess(sink, excess),
+        Refusal::Malformed(number) => tell_line(sink, b"malformed", *number),
+        Refusal::Rejected(number) => tell_line(sink, b"rejected", *number),
         Refusal::TooLong => write_all(sink, b"input too long\n"),
         Refusal::ReadFault => write_all(sink, b"read fault\n"),
         Refusal::WriteFault => write_all(sink, b"write fault\n"),
@@ -64,6 +66,7 @@ fn tell_excess<O: Sink>(sink: &mut O, excess: &Excess) -> Result<(), WriteFault>
         Excess::WideSum(id) => tell_wide(sink, b"wide sum", id),
         Excess::WideRow(id) => tell_wide(sink, b"wide row", id),
         Excess::WideBound(row) => tell_wide_bound(sink, *row),
+        Excess::WideCheck(row, id) => tell_wide_check(sink, *row, id),
         Excess::RowBudget(budget, id, count) => tell_budget(sink, *budget, id, *count),
         Excess::SetLimit(limit) => tell_limit(sink, *limit),
     }
@@ -83,6 +86,25 @@ fn tell_wide_bound<O: Sink>(sink: &mut O, row: usize) -> Result<(), WriteFault>
     let mut buffer = Buffer::new();
     let number = buffer.format(row as u128 + 1).as_bytes();
     write_pieces(sink, &[b"wide bound in semiflow ", number, b"\n"])
+}
+
+#[tactic(auto, unfolding(crate::specs::FaultLines::wide_check_line))]
+fn tell_wide_check<O: Sink>(sink: &mut O, row: usize, id: &Text) -> Result<(), WriteFault>
+    ensures { IsWritten (O.held sink.old) (O.held sink.new) (O.faults sink.old) (O.faults sink.new) (wide_check_line row id.now) result }
+{
+    let mut buffer = Buffer::new();
+    let row_number = row as u128 + 1;
+    let digits = buffer.format(row_number).as_bytes();
+    write_pieces(
+        sink,
+        &[
+            b"wide sum in semiflow ",
+            digits,
+            b" at ",
+            id.as_bytes(),
+            b"\n",
+        ],
+    )
 }
 
 #[tactic(auto, unfolding(crate::specs::FaultLines::budget_line))]
@@ -114,6 +136,16 @@ fn tell_limit<O: Sink>(sink: &mut O, limit: u32) -> Result<(), WriteFault>
         sink,
         &[b"set limit ", buffer.format(limit).as_bytes(), b" passed\n"],
     )
+}
+
+/// A bad line of a certificate.
+#[tactic(auto, unfolding(crate::specs::FaultLines::certificate_line))]
+fn tell_line<O: Sink>(sink: &mut O, words: &[u8], number: u64) -> Result<(), WriteFault>
+    ensures { IsWritten (O.held sink.old) (O.held sink.new) (O.faults sink.old) (O.faults sink.new) (certificate_line words.now number) result }
+{
+    let mut buffer = Buffer::new();
+    let digits = buffer.format(number).as_bytes();
+    write_pieces(sink, &[b"certificate ", words, b" at line ", digits, b"\n"])
 }
 
 /// At an offset in the input, by the words of the reason.

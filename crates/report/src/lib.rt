@@ -13,6 +13,7 @@ mod set_texts;
 #[cfg(test)]
 mod tests;
 mod verdict_texts;
+mod verified_texts;
 
 pub use bound_texts::bounds_text;
 pub use fault_lines::tell;
@@ -21,3 +22,4 @@ pub use refusal::{Excess, Refusal, status};
 pub use semiflow_texts::{place_semiflows_text, transition_semiflows_text};
 pub use set_texts::{siphons_text, traps_text};
 pub use verdict_texts::{commoner_text, push_siphon};
+pub use verified_texts::verified_text;

@@ -16,6 +16,10 @@ pub enum Refusal {
     Rule(FlatFault),
     /// A number is out of range, or a list out of reach.
     Excess(Excess),
+    /// The bytes behind the document spell no certificate, by this line, counted from 1.
+    Malformed(u64),
+    /// The condition of this line of the certificate, counted from 1, is false of the net.
+    Rejected(u64),
     /// The input has more bytes than may be read.
     TooLong,
     /// The source of the input failed.
@@ -26,7 +30,7 @@ pub enum Refusal {
     NoMemory,
 }
 
-/// Why the semiflows, the bounds, the siphons or the traps of a net aren't listed.
+/// Why the semiflows, the bounds, the siphons or the traps of a net aren't listed, or its bounds not certified.
 #[derive(Drop)]
 pub enum Excess {
     /// A sum at the column of this id exceeds 2^127 - 1.
@@ -35,6 +39,8 @@ pub enum Excess {
     WideRow(Text),
     /// The sum of the initial tokens, weighed by this row of the list, counted from 0, exceeds 2^127 - 1.
     WideBound(usize),
+    /// A sum of this row of the list, counted from 0, at the column of this id exceeds 2^127 - 1.
+    WideCheck(usize, Text),
     /// The budget, the id of the column that passes it, and its number of candidates.
     RowBudget(u32, Text, u64),
     /// More siphons or traps than this are grown.
@@ -50,6 +56,7 @@ pub fn status(refusal: &Refusal) -> u8
         Refusal::Document(fault) => status_of_document(fault),
         Refusal::Rule(fault) => status_of_rule(fault),
         Refusal::Excess(excess) => status_of_excess(excess),
+        Refusal::Malformed(_) | Refusal::Rejected(_) => 1,
         Refusal::TooLong => 7,
         Refusal::ReadFault => 8,
         Refusal::WriteFault => 9,
@@ -79,7 +86,7 @@ fn status_of_excess(excess: &Excess) -> u8
     ensures { result ≡ excess_status excess.now }
 {
     match excess {
-        Excess::WideSum(_) | Excess::WideRow(_) | Excess::WideBound(_) => 4,
+        Excess::WideSum(_) | Excess::WideRow(_) | Excess::WideBound(_) | Excess::WideCheck(..) => 4,
         Excess::RowBudget(..) => 5,
         Excess::SetLimit(_) => 6,
     }

@@ -1,4 +1,5 @@
 use super::*;
+use certificates::{BoundLines, Certificate, Claims, Flows, PlaceList, TreeLines};
 use net_class::{Class, Verdict};
 use net_values::{Document, FlatNet, Items, NetTree, NoMemory, PlaceSet, Rows, Sets, Text, Vector};
 use pnml_source::MemorySink;
@@ -16,6 +17,9 @@ enum Told<'a> {
     Siphons(&'a [&'a [usize]]),
     Traps(&'a [&'a [usize]]),
     Commoner(Option<&'a [usize]>),
+    VerifiedBounds,
+    VerifiedSiphon,
+    VerifiedTree,
 }
 
 /// A net with the places `p`, `q` and `é<`, the transitions `t` and `u`, and an arc of weight 7.
@@ -140,10 +144,23 @@ fn text_of(rt: &impl Abort, alloc: Global, net: &FlatNet, told: Told) -> Result<
             assert!(rt; siphon.size() == net.places());
             commoner_text(alloc, net, &Verdict::No(siphon))
         }
+        Told::VerifiedBounds => {
+            let lines = BoundLines {
+                flows: Flows::new(alloc),
+                claims: Claims::new(alloc),
+            };
+            verified_text(alloc, net, &Certificate::Bounds(lines))
+        }
+        Told::VerifiedSiphon => {
+            verified_text(alloc, net, &Certificate::BadSiphon(PlaceList::new(alloc)))
+        }
+        Told::VerifiedTree => {
+            verified_text(alloc, net, &Certificate::Commoner(TreeLines::new(alloc)))
+        }
     }
 }
 
-const TEXTS: [(Told<'static>, &str); 10] = [
+const TEXTS: [(Told<'static>, &str); 13] = [
     (Told::Check, "places 3 transitions 2 arcs 1\n"),
     (
         Told::Class(true, false, true, false),
@@ -179,6 +196,12 @@ const TEXTS: [(Told<'static>, &str); 10] = [
         Told::Commoner(None),
         "commoner yes\ndeadlock-free unknown\n",
     ),
+    (Told::VerifiedBounds, "accepted bounds\n"),
+    (Told::VerifiedSiphon, "accepted bad-siphon\n"),
+    (
+        Told::VerifiedTree,
+        "accepted commoner\ndeadlock-free unknown\n",
+    ),
 ];
 
 #[test]
@@ -199,12 +222,15 @@ enum Refused {
     WideSum,
     WideRow,
     WideBound(usize),
+    WideCheck(usize),
     RowBudget,
     SetLimit,
+    Malformed(u64),
+    Rejected(u64),
     TooLong,
 }
 
-const LINES: [(Refused, u8, &str); 8] = [
+const LINES: [(Refused, u8, &str); 11] = [
     (
         Refused::Usage,
         2,
@@ -218,12 +244,23 @@ const LINES: [(Refused, u8, &str); 8] = [
         4,
         "wide bound in semiflow 18446744073709551616\n",
     ),
+    (Refused::WideCheck(1), 4, "wide sum in semiflow 2 at é<\n"),
     (
         Refused::RowBudget,
         5,
         "row budget 5 passed at é<: 12 candidates\n",
     ),
     (Refused::SetLimit, 6, "set limit 7 passed\n"),
+    (
+        Refused::Malformed(1),
+        1,
+        "certificate malformed at line 1\n",
+    ),
+    (
+        Refused::Rejected(1_000_004),
+        1,
+        "certificate rejected at line 1000004\n",
+    ),
     (Refused::TooLong, 7, "input too long\n"),
 ];
 
@@ -235,8 +272,11 @@ fn refusal(alloc: Global, refused: Refused) -> Result<Refusal, NoMemory> {
         Refused::WideSum => Refusal::Excess(Excess::WideSum(id)),
         Refused::WideRow => Refusal::Excess(Excess::WideRow(id)),
         Refused::WideBound(row) => Refusal::Excess(Excess::WideBound(row)),
+        Refused::WideCheck(row) => Refusal::Excess(Excess::WideCheck(row, id)),
         Refused::RowBudget => Refusal::Excess(Excess::RowBudget(5, id, 12)),
         Refused::SetLimit => Refusal::Excess(Excess::SetLimit(7)),
+        Refused::Malformed(number) => Refusal::Malformed(number),
+        Refused::Rejected(number) => Refusal::Rejected(number),
         Refused::TooLong => Refusal::TooLong,
     })
 }

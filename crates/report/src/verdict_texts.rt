@@ -1,7 +1,7 @@
 ghost use Rattle.std.specs.Prelude.{◌≡◌, ◌↔◌, ◌++◌, IsTrue, IfOk, OnOk, length};
 ghost use Rattle.net_values.specs.FlatNets.{net_of};
 ghost use Rattle.net_values.specs.Nodes.{place_id};
-ghost use Rattle.report.specs.VerdictTexts.{IsCommonerText, IsVerdictOn, ProvesDeadlockFree, siphon_line, verdict_lines};
+ghost use Rattle.report.specs.VerdictTexts.{CommonerSuffices, IsCommonerText, IsVerdictOn, ProvesDeadlockFree, deadlock_line, siphon_line, verdict_lines};
 
 use crate::lines::push_answer;
 use crate::set_texts::push_members;
@@ -18,11 +18,7 @@ pub fn commoner_text(alloc: Global, net: &FlatNet, verdict: &Verdict) -> Result<
 {
     let mut text = Text::new(alloc);
     push_verdict(&mut text, net, verdict)?;
-    if proves_deadlock_free(net, verdict) {
-        text.push("deadlock-free proved\n")?;
-    } else {
-        text.push("deadlock-free unknown\n")?;
-    }
+    push_deadlock_free(&mut text, proves_deadlock_free(net, verdict))?;
     Ok(text)
 }
 
@@ -55,5 +51,24 @@ pub fn push_siphon(text: &mut Text, net: &FlatNet, siphon: &PlaceSet) -> Result<
 fn proves_deadlock_free(net: &FlatNet, verdict: &Verdict) -> bool
     ensures { IsTrue result ↔ ProvesDeadlockFree (net_of net.now) verdict.now }
 {
-    matches!(verdict, Verdict::Yes) && net.transitions() > 0 && class(net).ordinary
+    matches!(verdict, Verdict::Yes) && commoner_suffices(net)
+}
+
+/// Whether Commoner's condition suffices to exclude dead reachable markings: in an ordinary net with a
+/// transition.
+pub(crate) fn commoner_suffices(net: &FlatNet) -> bool
+    ensures { IsTrue result ↔ CommonerSuffices (net_of net.now) }
+{
+    net.transitions() > 0 && class(net).ordinary
+}
+
+/// Appends the line that tells whether it is proved that no reachable marking is dead.
+pub(crate) fn push_deadlock_free(text: &mut Text, is_proved: bool) -> Result<(), NoMemory>
+    ensures { OnOk result (text.new ≡ text.old ++ deadlock_line is_proved) }
+{
+    text.push(if is_proved {
+        "deadlock-free proved\n"
+    } else {
+        "deadlock-free unknown\n"
+    })
 }

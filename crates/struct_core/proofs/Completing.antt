@@ -27,7 +27,13 @@ use Rattle.struct_core.specs.Words.{Means}
 use Rattle.struct_core.specs.Enumerations.{FailedStep, wide_sum, wide_row, row_budget, SemiflowOutcome, all_semiflows, step_fails, PassedLimit, set_limit, SetOutcome, all_sets, passes_limit}
 use Rattle.struct_core.specs.Outcome.{TaskOutcome, Outcome}
 use Rattle.struct_core.specs.Run.{Device, Answered, Ran}
-use Rattle.struct_core.specs.Completeness.{IsQuiet, IsShort, NoStepFails, NoBoundIsWide, IsNarrow, IsFew, WritesText, QuietRunsComplete}
+use Rattle.struct_core.specs.Completeness.{IsQuiet, IsShort, NoStepFails, NoBoundIsWide, NoCheckIsWide, IsNarrow, IsFew, IsCertified, WritesText, QuietRunsComplete}
+use Rattle.struct_core.specs.Inputs.{rest_of}
+use Rattle.struct_core.specs.Certificates.{CertBoundOutcome, certified, wide_check, no_bounds, CertVerdictOutcome, certified_verdict, no_verdict, VerifyOutcome, malformed, rejected, accepted}
+use Rattle.certificates.specs.declared.certificate.Certificate.{Certificate}
+use Rattle.certificates.specs.BadLines.{Spells}
+use Rattle.certificates.specs.Conditions.{IsAccepted, LineHolds}
+use Rattle.certificates.proofs.OneReading.{one_reading}
 use Rattle.struct_core.proofs.Orders.{one_order}
 use Rattle.struct_core.proofs.TaskAnswers.{task_answers}
 use Rattle.siphon_branch.proofs.Limits.{few_not_many}
@@ -85,27 +91,55 @@ live_completes : (net : Net) (ids : ℕ → List ℕ) (limit status : ℕ) (text
 live_completes net ids limit _ _ few (liveness one is) = refl
 live_completes net ids limit _ _ few (too_many_siphons carried asked many) = absurd ((few_not_many net limit carried).siphons (few asked) many)
 
-task_completes : (task : Task) (budgets : Budgets) (document : Document) (net : NetLists) (status : ℕ) (text : List ℕ)
-    → IsNarrow task budgets net → IsFew task budgets net → TaskOutcome task budgets document net status text → status ≡ 0
-task_completes tasks.Check budgets document net status text narrow few outcome = outcome.0
-task_completes tasks.Canon budgets document net status text narrow few outcome = outcome.0
-task_completes tasks.Class budgets document net status text narrow few outcome = outcome.0
-task_completes tasks.Places budgets document net status text narrow few outcome = semiflows_complete _ _ _ _ status text narrow outcome
-task_completes tasks.Transitions budgets document net status text narrow few outcome = semiflows_complete _ _ _ _ status text narrow outcome
-task_completes tasks.Siphons budgets document net status text narrow few outcome =
+cert_bounds_complete : (net : Net) (front : List ℕ) (ids columns : ℕ → List ℕ) (budget status : ℕ) (text : List ℕ) → NoStepFails (incidence_of net) budget
+    → NoBoundIsWide net → NoCheckIsWide net → CertBoundOutcome net front ids columns budget status text → status ≡ 0
+cert_bounds_complete net front ids columns budget _ _ narrow none fine (certified list bounds are flows) = refl
+cert_bounds_complete net front ids columns budget _ _ narrow none fine (wide_check list bounds row column are wide) =
+    absurd (fine list bounds row column are.listed.is are.first wide)
+cert_bounds_complete net front ids columns budget _ _ narrow none fine (no_bounds status line other outcome) =
+    absurd (other (bounds_complete net ids columns budget status line narrow none outcome))
+
+cert_verdict_completes : (net : Net) (front : List ℕ) (limit status : ℕ) (text : List ℕ) → HasAtMostGrown net limit
+    → CertVerdictOutcome net front limit status text → status ≡ 0
+cert_verdict_completes net front limit _ _ few (certified_verdict one certificate also is certifies) = refl
+cert_verdict_completes net front limit _ _ few (no_verdict status line passed) =
+    absurd (not_passed (IsGrownSet net) limit status line (λ carried. (few_not_many net limit carried).siphons few) passed)
+
+verify_completes : (net : Net) (bytes : List ℕ) (status : ℕ) (text : List ℕ) (certificate : Certificate) → Spells certificate bytes
+    → IsAccepted net certificate → VerifyOutcome net bytes status text → status ≡ 0
+verify_completes net bytes _ _ certificate spelled fine (malformed number bad) = absurd ((one_reading bytes).apart certificate number spelled bad)
+verify_completes net bytes _ _ certificate spelled fine (rejected other number also false_line) =
+    let same : other ≡ certificate = (one_reading bytes).certificate other certificate also spelled in
+    absurd (false_line.fails (subst (λ (c : Certificate). LineHolds net c number) (sym same) (fine number)))
+verify_completes net bytes _ _ certificate spelled fine (accepted other text also holds told) = refl
+
+task_completes : (task : Task) (budgets : Budgets) (document : Document) (net : NetLists) (rest : List ℕ) (status : ℕ) (text : List ℕ)
+    → IsNarrow task budgets net → IsFew task budgets net → IsCertified task net rest → TaskOutcome task budgets document net rest status text → status ≡ 0
+task_completes tasks.Check budgets document net rest status text narrow few fine outcome = outcome.0
+task_completes tasks.Canon budgets document net rest status text narrow few fine outcome = outcome.0
+task_completes tasks.Class budgets document net rest status text narrow few fine outcome = outcome.0
+task_completes tasks.Places budgets document net rest status text narrow few fine outcome = semiflows_complete _ _ _ _ status text narrow outcome
+task_completes tasks.Transitions budgets document net rest status text narrow few fine outcome = semiflows_complete _ _ _ _ status text narrow outcome
+task_completes tasks.Siphons budgets document net rest status text narrow few fine outcome =
     sets_complete _ _ _ _ budgets.sets status text (λ carried. (few_not_many (net_of net) budgets.sets carried).siphons few) outcome
-task_completes tasks.Traps budgets document net status text narrow few outcome =
+task_completes tasks.Traps budgets document net rest status text narrow few fine outcome =
     sets_complete _ _ _ _ budgets.sets status text (λ carried. (few_not_many (net_of net) budgets.sets carried).traps few) outcome
-task_completes tasks.Bounds budgets document net status text narrow few outcome = bounds_complete _ _ _ _ status text narrow.0 narrow.1 outcome
-task_completes tasks.Commoner budgets document net status text narrow few outcome = verdict_completes _ _ _ status text few outcome
-task_completes tasks.Live budgets document net status text narrow few outcome = live_completes _ _ _ status text few outcome
+task_completes tasks.Bounds budgets document net rest status text narrow few fine outcome = bounds_complete _ _ _ _ status text narrow.0 narrow.1 outcome
+task_completes tasks.Commoner budgets document net rest status text narrow few fine outcome = verdict_completes _ _ _ status text few outcome
+task_completes tasks.CertBounds budgets document net rest status text narrow few fine outcome =
+    cert_bounds_complete _ _ _ _ _ status text narrow.0 narrow.1 narrow.2 outcome
+task_completes tasks.CertCommoner budgets document net rest status text narrow few fine outcome = cert_verdict_completes _ _ _ status text few outcome
+task_completes tasks.Verify budgets document net rest status text narrow few fine outcome =
+    verify_completes (net_of net) rest status text fine.0 fine.1 fine.2 outcome
+task_completes tasks.Live budgets document net rest status text narrow few fine outcome = live_completes _ _ _ status text few outcome
 
 -- ---- the run
 
 module _ (words : List (List ℕ)) (task : Task) (budgets : Budgets) (source source' out out' : Device) (status : ℕ) (line : List ℕ)
     (input : List ℕ) (document : Document) (net : NetLists) (ran : Ran words source source' out out' status line)
     (means : Means words (Run task budgets)) (reads : IsQuiet source source') (writes : IsQuiet out out') (tells : source.bytes ≡ Some input)
-    (short : IsShort input document) (flat : Flat document net) (narrow : IsNarrow task budgets net) (few : IsFew task budgets net) where
+    (short : IsShort task input document) (flat : Flat document net) (narrow : IsNarrow task budgets net) (few : IsFew task budgets net)
+    (fine : IsCertified task net (rest_of task input)) where
   not_usage : status ≢ 2
   not_usage is = ran.usage is (Run task budgets) means
 
@@ -126,7 +160,7 @@ module _ (words : List (List ℕ)) (task : Task) (budgets : Budgets) (source sou
 
   answered_zero : (a : Answered words source source' out out' status line) → a.outcome ≡ 0
   answered_zero a =
-      task_completes task budgets document net a.outcome a.text narrow few
+      task_completes task budgets document net (rest_of task input) a.outcome a.text narrow few fine
       (task_answers task budgets input document net a.outcome a.text short.profile flat (outcome_is a))
 
   ends : (a : Answered words source source' out out' status line) → (status ≡ 0) ⊎ (status ≡ 9) → WritesText (Run task budgets) input out out' status
@@ -145,6 +179,6 @@ module _ (words : List (List ℕ)) (task : Task) (budgets : Budgets) (source sou
       inl (ends a (a.follows (answered_zero a)))
 
 pub quiet_runs : QuietRunsComplete
-quiet_runs words task budgets source source' out out' err err' status input document net run means reads writes tells short flat narrow few =
-    completes words task budgets source source' out out' status run.line input document net run.ran means reads writes tells short flat narrow few
+quiet_runs words task budgets source source' out out' err err' status input document net run means reads writes tells short flat narrow few fine =
+    completes words task budgets source source' out out' status run.line input document net run.ran means reads writes tells short flat narrow few fine
     (cases_eq status 10)

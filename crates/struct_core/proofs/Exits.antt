@@ -165,24 +165,24 @@ ended words order source source' out out' input outcome text status line means r
 }
 
 -- a status in the middle has no line of its own, and neither has 0
-middle : (status : ℕ) → 3 ≤ status → status ≤ 6 → (line : List ℕ) → HasOwnLine status → OwnLine status line
-middle status low high line (inl is) = absurd (omega (arith, is))
-middle status low high line (inr late) = absurd (omega arith)
+middle : (status : ℕ) → status ≢ 2 → status ≤ 6 → (line : List ℕ) → HasOwnLine status → OwnLine status line
+middle status not_usage high line (inl is) = absurd (not_usage is)
+middle status not_usage high line (inr late) = absurd (omega arith)
 
 no_own_line : {line : List ℕ} → HasOwnLine 0 → OwnLine 0 line
 no_own_line (inl is) = absurd (omega (arith, is))
 no_own_line (inr late) = absurd (omega arith)
 
 -- the outcome is a status in the middle, with its line
-pub refused : (words : List (List ℕ)) (order : Order) (source source' out : Device) (input : List ℕ) (status : ℕ) (line : List ℕ) → 3 ≤ status → status ≤ 6 → Means words order → ReadsWhole source source' input → Outcome order input status line → Ran words source source' out out status line
-refused words order source source' out input status line low high means reads comes =
-    ended words order source source' out out input status line status line means reads comes (λ is. omega (arith, is)) (λ is. omega (arith, is)) (λ is. omega (arith, is)) record {
+pub refused : (words : List (List ℕ)) (order : Order) (source source' out : Device) (input : List ℕ) (status : ℕ) (line : List ℕ) → 1 ≤ status → status ≢ 2 → status ≤ 6 → Means words order → ReadsWhole source source' input → Outcome order input status line → Ran words source source' out out status line
+refused words order source source' out input status line low not_usage high means reads comes =
+    ended words order source source' out out input status line status line means reads comes not_usage (λ is. omega (arith, is)) (λ is. omega (arith, is)) record {
       refused = λ another. (refl, refl);
       follows = λ is. absurd (omega (arith, is));
       done = λ is. absurd (omega (arith, is));
       cut = λ is. absurd (omega (arith, is));
       writes = nothing_written out status;
-      own = middle status low high line;
+      own = middle status not_usage high line;
     }
 
 -- the text was written
@@ -216,7 +216,7 @@ not_answered words order source source' out input refusal means reads (inl memor
     (subst (λ (line : List ℕ). Ran words source source' out out 10 line) (sym memory.line)
     (out_of_memory words order source source' out means reads.kept (taken_whole source source' input reads)))
 not_answered words order source source' out input refusal means reads (inr told) =
-    refused words order source source' out input (status_of refusal) (line_of refusal) told.low told.high means reads told.outcome
+    refused words order source source' out input (status_of refusal) (line_of refusal) told.low told.not_usage told.high means reads told.outcome
 
 -- a result that is the refusal ends so
 pub refused_so : {T : Type 0} (words : List (List ℕ)) (source source' out out' : Device) (result : Result T Refusal) (refusal : Refusal) → IsErrAnd result (λ x. x ≡ refusal)

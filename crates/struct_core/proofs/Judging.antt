@@ -23,7 +23,7 @@ use Rattle.report.specs.Texts.{bounds_text}
 use Rattle.report.specs.VerdictTexts.{IsCommonerText, IsVerdictOn}
 use Rattle.struct_core.specs.Answers.{FailsWith}
 use Rattle.struct_core.specs.Enumerations.{AreListed, FailedStep, PassedLimit}
-use Rattle.struct_core.specs.Verdicts.{BoundOutcome, all_bounds, wide_bound, no_semiflows, CommonerOutcome, verdict, no_siphons, LiveOutcome, liveness, too_many_siphons}
+use Rattle.struct_core.specs.Verdicts.{FirstWide, first_wide, BoundOutcome, all_bounds, wide_bound, no_semiflows, CommonerOutcome, verdict, no_siphons, LiveOutcome, liveness, too_many_siphons}
 use Rattle.siphon_branch.specs.declared.fault.SetFault.{SetFault}
 use Rattle.siphon_branch.specs.declared.fault.SetFault.TheVariants as limits
 use Rattle.free_choice_live.specs.declared.liveness.Liveness.{Liveness}
@@ -40,13 +40,25 @@ pub bounds_told : (net : Net) (ids columns : ℕ → List ℕ) (budget : ℕ) (l
 bounds_told net ids columns budget list bounds text listed narrow size least same =
     subst (λ (t : List ℕ). BoundOutcome net ids columns budget 0 t) (sym same) (all_bounds list bounds listed narrow size least)
 
-pub wide_told : (net : Net) (ids columns : ℕ → List ℕ) (budget : ℕ) (list : List (List ℕ)) (row : ℕ) (fault : BoundFault) → fault ≡ faults.WideBound row
-    → AreListed (incidence_of net) budget list → ((k : ℕ) → fault ≡ faults.WideBound k → IsFirstWideRow net list k)
-    → FailsWith (BoundOutcome net ids columns budget) (Excess (WideBound row))
-wide_told net ids columns budget list row fault is listed wide =
-    inr record { low = omega arith; high = omega arith; outcome = wide_bound list row listed (wide row is) }
+pub wide_told : (net : Net) (list : List (List ℕ)) (row : ℕ) (fault : BoundFault) → fault ≡ faults.WideBound row
+    → ((k : ℕ) → fault ≡ faults.WideBound k → IsFirstWideRow net list k) → FailsWith (FirstWide net list) (Excess (WideBound row))
+wide_told net list row fault is wide =
+    inr record { low = omega arith; not_usage = λ is. omega (arith, is); high = omega arith; outcome = first_wide row (wide row is) }
 
-bounds_fail : (net : Net) (ids columns : ℕ → List ℕ) (budget : ℕ) (refusal : Refusal) → FailsWith (FailedStep (incidence_of net) columns budget) refusal
+is_wide_bound : (net : Net) (ids columns : ℕ → List ℕ) (budget : ℕ) (list : List (List ℕ)) (status : ℕ) (line : List ℕ) → AreListed (incidence_of net) budget list
+    → FirstWide net list status line → BoundOutcome net ids columns budget status line
+is_wide_bound net ids columns budget list _ _ listed (first_wide row wide) = wide_bound list row listed wide
+
+pub wide_fails : (net : Net) (ids columns : ℕ → List ℕ) (budget : ℕ) (list : List (List ℕ)) (refusal : Refusal) → AreListed (incidence_of net) budget list
+    → FailsWith (FirstWide net list) refusal → FailsWith (BoundOutcome net ids columns budget) refusal
+wide_fails net ids columns budget list refusal listed = fails_so _ _ refusal (λ status line is. is_wide_bound net ids columns budget list status line listed is)
+
+pub wide_refused : {T : Type 0} (net : Net) (ids columns : ℕ → List ℕ) (budget : ℕ) (list : List (List ℕ)) (result : Result T Refusal) (refusal : Refusal) → IsErrAnd result (λ x. x ≡ refusal)
+    → AreListed (incidence_of net) budget list → FailsWith (FirstWide net list) refusal → IfErr result (FailsWith (BoundOutcome net ids columns budget))
+wide_refused net ids columns budget list result refusal same listed fails =
+    err_goes (FailsWith (BoundOutcome net ids columns budget)) result refusal same (wide_fails net ids columns budget list refusal listed fails)
+
+pub bounds_fail : (net : Net) (ids columns : ℕ → List ℕ) (budget : ℕ) (refusal : Refusal) → FailsWith (FailedStep (incidence_of net) columns budget) refusal
     → FailsWith (BoundOutcome net ids columns budget) refusal
 bounds_fail net ids columns budget refusal = fails_so _ _ refusal (λ status line is. no_semiflows status line is)
 
@@ -90,7 +102,7 @@ pub live_fails : (net : Net) (ids : ℕ → List ℕ) (limit : ℕ) (carried : L
     → FailsToTell net limit fault → FailsWith (LiveOutcome net ids limit) (Excess (SetLimit limit))
 live_fails net ids limit carried fault is fails =
     let cause = subst (FailsToTell net limit) is fails in
-    inr record { low = omega arith; high = omega arith; outcome = too_many_siphons carried cause.0 cause.1 }
+    inr record { low = omega arith; not_usage = λ is. omega (arith, is); high = omega arith; outcome = too_many_siphons carried cause.0 cause.1 }
 
 -- the siphon of an answer is listed, so it has the size of the net
 pub live_on_net : (net : Net) (limit : ℕ) (one : Liveness) → Tells net limit one → IsLivenessOn net one

@@ -3,6 +3,7 @@ pub mod Telling
 pub mod Refusing
 pub mod Listing
 pub mod Judging
+pub mod Certifying
 pub mod Outcomes
 pub mod Orders
 pub mod SameNets
@@ -13,9 +14,16 @@ pub mod Truths
 pub mod OneListing
 pub mod OneVerdict
 pub mod OneLiveness
+pub mod OneCertificate
 pub mod OneOutcome
 pub mod SomeBounds
 pub mod SomeVerdict
 pub mod SomeLiveness
+pub mod SomeFailure
+pub mod SomeCertificate
 pub mod SomeOutcome
 pub mod VerdictLaws
+pub mod CertificateLaws
+pub mod CanonLine
+pub mod NarrowEntries
+pub mod MadeCertificates

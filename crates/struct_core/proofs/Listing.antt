@@ -35,7 +35,7 @@ each_member Property list every = λ k d h. every _ (All-contains_itself list k 
 pub fails_so : (Tells Wider : ℕ → List ℕ → Type 0) (refusal : Refusal) → ((status : ℕ) (line : List ℕ) → Tells status line → Wider status line)
     → FailsWith Tells refusal → FailsWith Wider refusal
 fails_so Tells Wider refusal widen (inl memory) = inl memory
-fails_so Tells Wider refusal widen (inr told) = inr record { low = told.low; high = told.high; outcome = widen _ _ told.outcome }
+fails_so Tells Wider refusal widen (inr told) = inr record { low = told.low; not_usage = told.not_usage; high = told.high; outcome = widen _ _ told.outcome }
 
 -- ---- semiflows
 
@@ -76,6 +76,7 @@ pub wide_sum_told : (m : Matrix) (columns : ℕ → List ℕ) (budget j : ℕ) (
 wide_sum_told m columns budget j id fault is fails same =
     inr record {
       low = omega arith;
+      not_usage = λ is. omega (arith, is);
       high = omega arith;
       outcome = subst (λ (t : List ℕ). FailedStep m columns budget 4 (wide_sum_line t)) (sym same)
           (wide_sum j (subst (IsExplained m budget) is fails));
@@ -86,6 +87,7 @@ pub wide_row_told : (m : Matrix) (columns : ℕ → List ℕ) (budget j : ℕ) (
 wide_row_told m columns budget j id fault is fails same =
     inr record {
       low = omega arith;
+      not_usage = λ is. omega (arith, is);
       high = omega arith;
       outcome = subst (λ (t : List ℕ). FailedStep m columns budget 4 (wide_row_line t)) (sym same)
           (wide_row j (subst (IsExplained m budget) is fails));
@@ -96,6 +98,7 @@ pub budget_told : (m : Matrix) (columns : ℕ → List ℕ) (budget j count : �
 budget_told m columns budget j count id fault is fails same =
     inr record {
       low = omega arith;
+      not_usage = λ is. omega (arith, is);
       high = omega arith;
       outcome = subst (λ (t : List ℕ). FailedStep m columns budget 5 (budget_line budget t count)) (sym same)
           (row_budget j count (subst (IsExplained m budget) is fails));
@@ -110,7 +113,7 @@ sets_sized net list is = each_member (λ set. length set ≡ net.places) list (�
 pub limit_told : (net : Net) (limit : ℕ) (carried : List (List Bool)) (fault : SetFault) → fault ≡ limits.SetLimit carried
     → FailsToList net limit fault → FailsWith (PassedLimit (IsGrownSet net) limit) (Excess (SetLimit limit))
 limit_told net limit carried fault is fails =
-    inr record { low = omega arith; high = omega arith; outcome = set_limit carried (subst (FailsToList net limit) is fails) }
+    inr record { low = omega arith; not_usage = λ is. omega (arith, is); high = omega arith; outcome = set_limit carried (subst (FailsToList net limit) is fails) }
 
 pub siphons_told : (net : Net) (word : List ℕ) (ids : ℕ → List ℕ) (limit : ℕ) (list : List (List Bool)) (text : List ℕ)
     → HasAtMostGrown net limit → IsTheList (slice_cmp bool_cmp) (IsMinimalSet net) list → text ≡ sets_text word ids list

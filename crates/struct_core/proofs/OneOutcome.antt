@@ -1,6 +1,6 @@
 -- For an order and an input there is at most one outcome: bytes spell one document or have one fault, the
 -- document breaks one rule first or has one flat net, and what is said of each list determines it.
-use Rattle.std.proofs.Common.{◌≡◌, ℕ, List, refl, sym, ap, subst, ◌∙◌}
+use Rattle.std.proofs.Common.{◌≡◌, ◌⊎◌, ℕ, List, refl, sym, ap, subst, ◌∙◌, inl, inr}
 use Rattle.std.specs.Prelude.{Bool}
 use Rattle.net_values.specs.declared.document.Document.{Document}
 use Rattle.net_values.specs.FlatNets.{NetLists, net_of}
@@ -21,12 +21,14 @@ use Rattle.struct_core.specs.declared.order.Order.{Order}
 use Rattle.struct_core.specs.declared.order.Order.TheVariants.{Run}
 use Rattle.report.specs.FaultLines.{document_line, rule_line}
 use Rattle.struct_core.specs.Outcome.{HasClass, TaskOutcome, Outcome, no_document, broken, answer}
-use Rattle.struct_core.specs.Determined.{HasOneOutcome}
+use Rattle.struct_core.specs.Determined.{DifferInTree, IsSameText, HasOneOutcome}
+use Rattle.struct_core.specs.Inputs.{front_of, rest_of}
 use Rattle.struct_core.proofs.Truths.{same_answer}
 use Rattle.struct_core.proofs.TaskAnswers.{task_answers}
 use Rattle.struct_core.proofs.OneListing.{one_semiflow_outcome, one_set_outcome}
 use Rattle.struct_core.proofs.OneVerdict.{one_bound_outcome, one_commoner_outcome}
 use Rattle.struct_core.proofs.OneLiveness.{one_live_outcome}
+use Rattle.struct_core.proofs.OneCertificate.{one_cert_bound_outcome, one_cert_verdict_outcome, one_verify_outcome}
 use Rattle.siphon_branch.proofs.Limits.{few_not_many}
 
 -- ---- a class
@@ -48,49 +50,66 @@ one_class net one other is also =
 
 -- ---- a task
 
-one_task_outcome : (task : Task) (budgets : Budgets) (document : Document) (net : NetLists) (status other : ℕ) (text line : List ℕ)
-    → TaskOutcome task budgets document net status text → TaskOutcome task budgets document net other line → (status ≡ other) × (text ≡ line)
-one_task_outcome tasks.Check budgets document net status other text line one another = (one.0 ∙ sym another.0, one.1 ∙ sym another.1)
-one_task_outcome tasks.Canon budgets document net status other text line one another = (one.0 ∙ sym another.0, one.1 ∙ sym another.1)
-one_task_outcome tasks.Class budgets document net status other text line one another = (
+-- the same text, whatever the order
+exactly : {order : Order} {status other : ℕ} {text line : List ℕ} → (status ≡ other) × (text ≡ line) → (status ≡ other) × IsSameText order text line
+exactly same = (same.0, inl same.1)
+
+-- or another tree
+but_for_a_tree : {budgets : Budgets} {status other : ℕ} {text line : List ℕ} → (status ≡ other) × ((text ≡ line) ⊎ DifferInTree text line)
+    → (status ≡ other) × IsSameText (Run tasks.CertCommoner budgets) text line
+but_for_a_tree {budgets} (same, inl text) = (same, inl text)
+but_for_a_tree {budgets} (same, inr tree) = (same, inr ((budgets, refl), tree))
+
+one_task_outcome : (task : Task) (budgets : Budgets) (document : Document) (net : NetLists) (rest : List ℕ) (status other : ℕ) (text line : List ℕ)
+    → TaskOutcome task budgets document net rest status text → TaskOutcome task budgets document net rest other line
+    → (status ≡ other) × IsSameText (Run task budgets) text line
+one_task_outcome tasks.Check budgets document net rest status other text line one another = exactly (one.0 ∙ sym another.0, one.1 ∙ sym another.1)
+one_task_outcome tasks.Canon budgets document net rest status other text line one another = exactly (one.0 ∙ sym another.0, one.1 ∙ sym another.1)
+one_task_outcome tasks.Class budgets document net rest status other text line one another = exactly (
   one.0 ∙ sym another.0,
   one.3 ∙ ap class_text (one_class (net_of net) one.1 another.1 one.2 another.2) ∙ sym another.3,
 )
-one_task_outcome tasks.Places budgets document net status other text line one another = one_semiflow_outcome _ _ _ _ status other text line one another
-one_task_outcome tasks.Transitions budgets document net status other text line one another = one_semiflow_outcome _ _ _ _ status other text line one another
-one_task_outcome tasks.Siphons budgets document net status other text line one another =
-    one_set_outcome _ _ _ _ budgets.sets status other text line (λ carried. (few_not_many (net_of net) budgets.sets carried).siphons) one another
-one_task_outcome tasks.Traps budgets document net status other text line one another =
-    one_set_outcome _ _ _ _ budgets.sets status other text line (λ carried. (few_not_many (net_of net) budgets.sets carried).traps) one another
-one_task_outcome tasks.Bounds budgets document net status other text line one another = one_bound_outcome _ _ _ _ status other text line one another
-one_task_outcome tasks.Commoner budgets document net status other text line one another = one_commoner_outcome _ _ _ status other text line one another
-one_task_outcome tasks.Live budgets document net status other text line one another = one_live_outcome _ _ _ status other text line one another
+one_task_outcome tasks.Places budgets document net rest status other text line one another = exactly (one_semiflow_outcome _ _ _ _ status other text line one another)
+one_task_outcome tasks.Transitions budgets document net rest status other text line one another = exactly (one_semiflow_outcome _ _ _ _ status other text line one another)
+one_task_outcome tasks.Siphons budgets document net rest status other text line one another =
+    exactly (one_set_outcome _ _ _ _ budgets.sets status other text line (λ carried. (few_not_many (net_of net) budgets.sets carried).siphons) one another)
+one_task_outcome tasks.Traps budgets document net rest status other text line one another =
+    exactly (one_set_outcome _ _ _ _ budgets.sets status other text line (λ carried. (few_not_many (net_of net) budgets.sets carried).traps) one another)
+one_task_outcome tasks.Bounds budgets document net rest status other text line one another = exactly (one_bound_outcome _ _ _ _ status other text line one another)
+one_task_outcome tasks.Commoner budgets document net rest status other text line one another = exactly (one_commoner_outcome _ _ _ status other text line one another)
+one_task_outcome tasks.CertBounds budgets document net rest status other text line one another =
+    exactly (one_cert_bound_outcome _ _ _ _ _ status other text line one another)
+one_task_outcome tasks.CertCommoner budgets document net rest status other text line one another =
+    but_for_a_tree (one_cert_verdict_outcome _ document _ status other text line one another)
+one_task_outcome tasks.Verify budgets document net rest status other text line one another =
+    exactly (one_verify_outcome _ rest status other text line one another)
+one_task_outcome tasks.Live budgets document net rest status other text line one another = exactly (one_live_outcome _ _ _ status other text line one another)
 
 -- ---- an order
 
-no_other : (order : Order) (bytes : List ℕ) (fault : Fault) (status : ℕ) (text : List ℕ) → FirstFault bytes fault → Outcome order bytes status text
-    → (status ≡ 3) × (text ≡ document_line fault)
-no_other _ _ fault _ _ is (no_document task budgets bytes other first) =
-    (refl, sym (ap document_line ((one_answer bytes fault is).0 other first)))
-no_other _ _ fault _ _ is (broken task budgets bytes document other spelled first) = absurd ((one_answer bytes fault is).1 document spelled)
-no_other _ _ fault _ _ is (answer task budgets bytes document net status text profile flat outcome) =
-    absurd ((one_answer bytes fault is).1 document profile.spelled)
+no_other : (task : Task) (budgets : Budgets) (bytes : List ℕ) (fault : Fault) (status : ℕ) (text : List ℕ) → FirstFault (front_of task bytes) fault
+    → Outcome (Run task budgets) bytes status text → (status ≡ 3) × (text ≡ document_line fault)
+no_other _ _ _ fault _ _ is (no_document task budgets bytes other first) =
+    (refl, sym (ap document_line ((one_answer (front_of task bytes) fault is).0 other first)))
+no_other _ _ _ fault _ _ is (broken task budgets bytes document other spelled first) = absurd ((one_answer (front_of task bytes) fault is).1 document spelled)
+no_other _ _ _ fault _ _ is (answer task budgets bytes document net status text profile flat outcome) =
+    absurd ((one_answer (front_of task bytes) fault is).1 document profile.spelled)
 
-broken_only : (order : Order) (bytes : List ℕ) (document : Document) (fault : FlatFault) (status : ℕ) (text : List ℕ) → DocBytes document bytes
-    → FirstBroken document fault → Outcome order bytes status text → (status ≡ 3) × (text ≡ rule_line fault)
-broken_only _ _ document fault _ _ spelled is (no_document task budgets bytes other first) = absurd ((one_answer bytes other first).1 document spelled)
-broken_only _ _ document fault _ _ spelled is (broken task budgets bytes another other also first) =
-    (refl, ap rule_line (one_fault document other fault (subst (λ d. FirstBroken d other) (spells_one bytes another document also spelled) first) is))
-broken_only _ _ document fault _ _ spelled is (answer task budgets bytes another net status text profile flat outcome) =
-    absurd (breaks_where_faulty document fault is (subst BreaksNoRule (spells_one bytes another document profile.spelled spelled) profile.rules))
+broken_only : (task : Task) (budgets : Budgets) (bytes : List ℕ) (document : Document) (fault : FlatFault) (status : ℕ) (text : List ℕ)
+    → DocBytes document (front_of task bytes) → FirstBroken document fault → Outcome (Run task budgets) bytes status text → (status ≡ 3) × (text ≡ rule_line fault)
+broken_only _ _ _ document fault _ _ spelled is (no_document task budgets bytes other first) = absurd ((one_answer (front_of task bytes) other first).1 document spelled)
+broken_only _ _ _ document fault _ _ spelled is (broken task budgets bytes another other also first) =
+    (refl, ap rule_line (one_fault document other fault (subst (λ d. FirstBroken d other) (spells_one (front_of task bytes) another document also spelled) first) is))
+broken_only _ _ _ document fault _ _ spelled is (answer task budgets bytes another net status text profile flat outcome) =
+    absurd (breaks_where_faulty document fault is (subst BreaksNoRule (spells_one (front_of task bytes) another document profile.spelled spelled) profile.rules))
 
 pub one_outcome : HasOneOutcome
 one_outcome _ _ _ other _ line (no_document task budgets bytes fault first) another =
-    let same : (other ≡ 3) × (line ≡ document_line fault) = no_other (Run task budgets) bytes fault other line first another in
-    (sym same.0, sym same.1)
+    let same : (other ≡ 3) × (line ≡ document_line fault) = no_other task budgets bytes fault other line first another in
+    exactly (sym same.0, sym same.1)
 one_outcome _ _ _ other _ line (broken task budgets bytes document fault spelled first) another =
-    let same : (other ≡ 3) × (line ≡ rule_line fault) = broken_only (Run task budgets) bytes document fault other line spelled first another in
-    (sym same.0, sym same.1)
+    let same : (other ≡ 3) × (line ≡ rule_line fault) = broken_only task budgets bytes document fault other line spelled first another in
+    exactly (sym same.0, sym same.1)
 one_outcome _ _ _ other _ line (answer task budgets bytes document net status text profile flat outcome) another =
-    one_task_outcome task budgets document net status other text line outcome
+    one_task_outcome task budgets document net (rest_of task bytes) status other text line outcome
     (task_answers task budgets bytes document net other line profile flat another)

@@ -126,7 +126,7 @@ one_unsafe net list one other is also = elim (cases_lt is.index also.index) [
   ]
 ]
 
-one_verdict : (net : Net) (one other : Verdict) → IsVerdict net one → IsVerdict net other → one ≡ other
+pub one_verdict : (net : Net) (one other : Verdict) → IsVerdict net one → IsVerdict net other → one ≡ other
 one_verdict net Yes Yes is also = refl
 one_verdict net Yes (No siphon) is also = sym (also.exact.1 (is.exact.0 refl))
 one_verdict net (No siphon) Yes is also = is.exact.1 (also.exact.0 refl)

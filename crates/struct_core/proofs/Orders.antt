@@ -4,7 +4,7 @@ use Rattle.std.specs.Prelude.{codes, if◌then◌else◌, nat_eq}
 use Rattle.std.specs.List.{starts_with}
 use Rattle.std.proofs.lemmas.Option.{same_Some}
 use Rattle.struct_core.specs.declared.order.Task.{Task}
-use Rattle.struct_core.specs.declared.order.Task.TheVariants.{Check, Canon, Class, Places, Transitions, Siphons, Traps, Bounds, Commoner, Live}
+use Rattle.struct_core.specs.declared.order.Task.TheVariants.{Check, Canon, Class, Places, Transitions, Siphons, Traps, Bounds, Commoner, CertBounds, CertCommoner, Verify, Live}
 use Rattle.struct_core.specs.declared.order.Order.{Order}
 use Rattle.struct_core.specs.declared.order.Order.TheVariants.{Run}
 use Rattle.struct_core.specs.Words.{Means, task_word, default_budgets}
@@ -21,6 +21,9 @@ task_of word =
     else if starts_with nat_eq word (codes "traps") then Some Traps
     else if starts_with nat_eq word (codes "bounds") then Some Bounds
     else if starts_with nat_eq word (codes "commoner") then Some Commoner
+    else if starts_with nat_eq word (codes "cert-bounds") then Some CertBounds
+    else if starts_with nat_eq word (codes "cert-commoner") then Some CertCommoner
+    else if starts_with nat_eq word (codes "verify") then Some Verify
     else if starts_with nat_eq word (codes "live") then Some Live
     else None
 
@@ -34,6 +37,9 @@ word_read Siphons = refl
 word_read Traps = refl
 word_read Bounds = refl
 word_read Commoner = refl
+word_read CertBounds = refl
+word_read CertCommoner = refl
+word_read Verify = refl
 word_read Live = refl
 
 one_task : (one other : Task) → task_word one ≡ task_word other → one ≡ other

@@ -38,11 +38,11 @@ sets_printed IsMinimal IsGrown Property word ids limit _ _ has_it (passes_limit 
     absurd (limit_goes_on IsGrown limit status line passed zero_is)
 
 pub prints_semiflows : PrintSemiflows
-prints_semiflows budgets document net text =
+prints_semiflows budgets document net rest text =
     (λ outcome. vectors_printed _ _ _ _ 0 text outcome refl, λ outcome. vectors_printed _ _ _ _ 0 text outcome refl)
 
 pub prints_closed_sets : PrintClosedSets
-prints_closed_sets budgets document net text = (
+prints_closed_sets budgets document net rest text = (
   λ outcome. sets_printed _ _ (λ set. IsSiphon (net_of net) (has set)) _ _ _ 0 text (λ set minimal. minimal.minimal.siphon) outcome refl,
   λ outcome. sets_printed _ _ (λ set. IsTrap (net_of net) (has set)) _ _ _ 0 text (λ set minimal. minimal.minimal.trap) outcome refl,
 )

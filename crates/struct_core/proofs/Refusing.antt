@@ -1,5 +1,5 @@
 -- A fault of a call is a refusal that its outcome tells.
-use Rattle.std.proofs.Common.{ℕ, List, refl, arith, inl, inr, IfOk}
+use Rattle.std.proofs.Common.{◌≡◌, ℕ, List, refl, subst, arith, inl, inr, IfOk}
 use Rattle.std.specs.Prelude.{Result, Ok, Err, IfErr}
 use Rattle.net_values.specs.declared.document.Document.{Document as Read}
 use Rattle.net_values.specs.FlatNets.{NetLists}
@@ -17,45 +17,64 @@ use Rattle.struct_core.specs.declared.order.Budgets.{Budgets}
 use Rattle.struct_core.specs.declared.order.Order.TheVariants.{Run}
 use Rattle.report.specs.declared.refusal.Refusal.{Refusal}
 use Rattle.report.specs.declared.refusal.Refusal.TheVariants.{Document, Rule}
+use Rattle.struct_core.specs.Inputs.{front_of, rest_of}
 use Rattle.struct_core.specs.Outcome.{Outcome, TaskOutcome, no_document, broken, answer}
 use Rattle.struct_core.specs.Answers.{FailsWith}
+use Rattle.struct_core.proofs.Listing.{fails_so}
 
-pub document_refused : (task : Task) (budgets : Budgets) (bytes : List ℕ) (fault : DocFault) → NamesFirstFault fault bytes
+document_fails : (task : Task) (budgets : Budgets) (bytes : List ℕ) (fault : DocFault) → NamesFirstFault fault (front_of task bytes)
     → FailsWith (Outcome (Run task budgets) bytes) (Document fault)
-document_refused task budgets bytes documents.NoMemory is = inl record { status = refl; line = refl }
-document_refused task budgets bytes (documents.NotUtf8 k) is =
-    inr record { low = omega arith; high = omega arith; outcome = no_document task budgets bytes (not_utf8 k) is }
-document_refused task budgets bytes (documents.At k reason) is =
-    inr record { low = omega arith; high = omega arith; outcome = no_document task budgets bytes (at k reason) is }
-document_refused task budgets bytes (documents.Truncated k) is =
-    inr record { low = omega arith; high = omega arith; outcome = no_document task budgets bytes (truncated k) is }
+document_fails task budgets bytes documents.NoMemory is = inl record { status = refl; line = refl }
+document_fails task budgets bytes (documents.NotUtf8 k) is =
+    inr record { low = omega arith; not_usage = λ is. omega (arith, is); high = omega arith; outcome = no_document task budgets bytes (not_utf8 k) is }
+document_fails task budgets bytes (documents.At k reason) is =
+    inr record { low = omega arith; not_usage = λ is. omega (arith, is); high = omega arith; outcome = no_document task budgets bytes (at k reason) is }
+document_fails task budgets bytes (documents.Truncated k) is =
+    inr record { low = omega arith; not_usage = λ is. omega (arith, is); high = omega arith; outcome = no_document task budgets bytes (truncated k) is }
 
-pub rules_broken : (task : Task) (budgets : Budgets) (bytes : List ℕ) (document : Read) (fault : FlatFault)
-    → DocBytes document bytes → IsAnswered document.net fault → FailsWith (Outcome (Run task budgets) bytes) (Rule fault)
-rules_broken task budgets bytes document rules.NoMemory spelled is = inl record { status = refl; line = refl }
-rules_broken task budgets bytes document (rules.DuplicateId id) spelled is =
-    inr record { low = omega arith; high = omega arith; outcome = broken task budgets bytes document (rules.DuplicateId id) spelled is }
-rules_broken task budgets bytes document (rules.UnknownId id by) spelled is =
-    inr record { low = omega arith; high = omega arith; outcome = broken task budgets bytes document (rules.UnknownId id by) spelled is }
-rules_broken task budgets bytes document (rules.RefKind id) spelled is =
-    inr record { low = omega arith; high = omega arith; outcome = broken task budgets bytes document (rules.RefKind id) spelled is }
-rules_broken task budgets bytes document (rules.RefCycle id) spelled is =
-    inr record { low = omega arith; high = omega arith; outcome = broken task budgets bytes document (rules.RefCycle id) spelled is }
-rules_broken task budgets bytes document (rules.ArcEnds id) spelled is =
-    inr record { low = omega arith; high = omega arith; outcome = broken task budgets bytes document (rules.ArcEnds id) spelled is }
+pub document_refused : (task : Task) (budgets : Budgets) (bytes front : List ℕ) (fault : DocFault) → front ≡ front_of task bytes
+    → NamesFirstFault fault front → FailsWith (Outcome (Run task budgets) bytes) (Document fault)
+document_refused task budgets bytes front fault same is = document_fails task budgets bytes fault (subst (NamesFirstFault fault) same is)
 
--- a text of the task is the outcome
-pub task_answered : (task : Task) (budgets : Budgets) (bytes : List ℕ) (document : Read) (net : NetLists) (result : Result (List ℕ) Refusal)
-    → DocBytes document bytes → BreaksNoRule document × Flat document net → IfOk result (TaskOutcome task budgets document net 0)
-    → IfOk result (Outcome (Run task budgets) bytes 0)
-task_answered task budgets bytes document net (Ok text) spelled flat is = answer task budgets bytes document net 0 text (record { spelled = spelled; rules = flat.0 }) flat.1 is
-task_answered task budgets bytes document net (Err refusal) spelled flat is = tt
+rule_fails : (task : Task) (budgets : Budgets) (bytes : List ℕ) (document : Read) (fault : FlatFault)
+    → DocBytes document (front_of task bytes) → IsAnswered document.net fault → FailsWith (Outcome (Run task budgets) bytes) (Rule fault)
+rule_fails task budgets bytes document rules.NoMemory spelled is = inl record { status = refl; line = refl }
+rule_fails task budgets bytes document (rules.DuplicateId id) spelled is =
+    inr record { low = omega arith; not_usage = λ is. omega (arith, is); high = omega arith; outcome = broken task budgets bytes document (rules.DuplicateId id) spelled is }
+rule_fails task budgets bytes document (rules.UnknownId id by) spelled is =
+    inr record { low = omega arith; not_usage = λ is. omega (arith, is); high = omega arith; outcome = broken task budgets bytes document (rules.UnknownId id by) spelled is }
+rule_fails task budgets bytes document (rules.RefKind id) spelled is =
+    inr record { low = omega arith; not_usage = λ is. omega (arith, is); high = omega arith; outcome = broken task budgets bytes document (rules.RefKind id) spelled is }
+rule_fails task budgets bytes document (rules.RefCycle id) spelled is =
+    inr record { low = omega arith; not_usage = λ is. omega (arith, is); high = omega arith; outcome = broken task budgets bytes document (rules.RefCycle id) spelled is }
+rule_fails task budgets bytes document (rules.ArcEnds id) spelled is =
+    inr record { low = omega arith; not_usage = λ is. omega (arith, is); high = omega arith; outcome = broken task budgets bytes document (rules.ArcEnds id) spelled is }
 
--- and so is a refusal of the task
-pub task_failed : (task : Task) (budgets : Budgets) (bytes : List ℕ) (document : Read) (net : NetLists) (result : Result (List ℕ) Refusal)
-    → DocBytes document bytes → BreaksNoRule document × Flat document net → IfErr result (FailsWith (TaskOutcome task budgets document net))
-    → IfErr result (FailsWith (Outcome (Run task budgets) bytes))
-task_failed task budgets bytes document net (Ok text) spelled flat is = tt
-task_failed task budgets bytes document net (Err refusal) spelled flat (inl memory) = inl memory
-task_failed task budgets bytes document net (Err refusal) spelled flat (inr told) =
-    inr record { low = told.low; high = told.high; outcome = answer task budgets bytes document net _ _ (record { spelled = spelled; rules = flat.0 }) flat.1 told.outcome }
+pub rules_broken : (task : Task) (budgets : Budgets) (bytes front : List ℕ) (document : Read) (fault : FlatFault) → front ≡ front_of task bytes
+    → DocBytes document front → IsAnswered document.net fault → FailsWith (Outcome (Run task budgets) bytes) (Rule fault)
+rules_broken task budgets bytes front document fault same spelled is =
+    rule_fails task budgets bytes document fault (subst (DocBytes document) same spelled) is
+
+-- what holds of a value, or of a fault, gives what follows from it
+if_ok : {T E : Type 0} {P Q : T → Type 0} (result : Result T E) → ((value : T) → P value → Q value) → IfOk result P → IfOk result Q
+if_ok (Ok value) so is = so value is
+if_ok (Err fault) so is = tt
+
+if_err : {T E : Type 0} {P Q : E → Type 0} (result : Result T E) → ((fault : E) → P fault → Q fault) → IfErr result P → IfErr result Q
+if_err (Ok value) so is = tt
+if_err (Err fault) so is = so fault is
+
+-- a text of the task is the outcome, and so is a refusal of the task
+module _ (task : Task) (budgets : Budgets) (bytes front rest : List ℕ) (document : Read) (net : NetLists) (result : Result (List ℕ) Refusal)
+    (front_is : front ≡ front_of task bytes) (rest_is : rest ≡ rest_of task bytes) (spelled : DocBytes document front)
+    (flat : BreaksNoRule document × Flat document net) where
+  answers : (status : ℕ) (text : List ℕ) → TaskOutcome task budgets document net rest status text → Outcome (Run task budgets) bytes status text
+  answers status text is =
+      answer task budgets bytes document net status text (record { spelled = subst (DocBytes document) front_is spelled; rules = flat.0 }) flat.1
+      (subst (λ (r : List ℕ). TaskOutcome task budgets document net r status text) rest_is is)
+
+  pub task_answered : IfOk result (TaskOutcome task budgets document net rest 0) → IfOk result (Outcome (Run task budgets) bytes 0)
+  task_answered = if_ok result (λ text is. answers 0 text is)
+
+  pub task_failed : IfErr result (FailsWith (TaskOutcome task budgets document net rest)) → IfErr result (FailsWith (Outcome (Run task budgets) bytes))
+  task_failed = if_err result (λ refusal. fails_so _ _ refusal answers)

@@ -10,7 +10,7 @@ use Rattle.net_values.specs.Net.{Net}
 use Rattle.net_values.specs.TheList.{IsTheList}
 use Rattle.bounds.specs.declared.place_bound.PlaceBound.{PlaceBound}
 use Rattle.bounds.specs.LeastBound.{IsLeastBound}
-use Rattle.bounds.specs.Listed.{kept_at, bound_of, row_at, tokens_of, tightened, IsLeastOfRows, AreLeastBounds, AreNarrowRows, IsFirstWideRow}
+use Rattle.bounds.specs.Listed.{kept_at, bound_of, row_at, tokens_of, tightened, IsLeastOfRows, AreLeastBounds, AreNarrowRows, NameFirstRows, IsFirstWideRow}
 use Rattle.bounds.proofs.OfRows.{below_more, row_more, least_bound}
 use Rattle.bounds.proofs.Sums.{Generate}
 use Rattle.incidence.specs.Matrix.{incidence_of}
@@ -57,3 +57,7 @@ module _ (net : Net) (list : List (List ℕ)) where
   all_least is generate = λ p under.
       subst (λ (kept : Option PlaceBound). IsLeastBound net p (bound_of kept)) (sym (kept_is p under))
       (least_bound net list p is generate under (of_rows p (length list)).0 (of_rows p (length list)).1)
+
+  pub all_first : NameFirstRows net list all_kept
+  all_first p under =
+      subst (λ (kept : Option PlaceBound). IsLeastOfRows net list (length list) p kept) (sym (kept_is p under)) (of_rows p (length list)).1

@@ -1,14 +1,11 @@
 -- Every input has an outcome: it has a first fault or spells a document, which breaks a rule first or has a
 -- flat net, and of that net the task has an outcome.
-use Rattle.std.proofs.Common.{◌++◌, ◌⊎◌, ℕ, List, length, refl, inl, inr}
+use Rattle.std.proofs.Common.{◌≡◌, ◌≤◌, ◌++◌, ◌⊎◌, ℕ, List, length, refl, inl, inr}
 use Rattle.std.specs.Prelude.{Bool}
 use Rattle.net_values.specs.declared.document.Document.{Document}
 use Rattle.net_values.specs.Net.{Net}
 use Rattle.net_values.specs.FlatNets.{NetLists, net_of}
 use Rattle.incidence.specs.Matrix.{Matrix, incidence_of}
-use Rattle.semiflow_elim.specs.declared.fault.ElimFault.{ElimFault}
-use Rattle.semiflow_elim.specs.declared.fault.ElimFault.TheVariants as faults
-use Rattle.semiflow_elim.specs.FirstFail.{IsFirstFail}
 use Rattle.pnml_grammar.specs.Canon.{canon}
 use Rattle.pnml_grammar.specs.Documents.{DocBytes}
 use Rattle.pnml_grammar.specs.FirstFault.{Fault, FirstFault}
@@ -25,8 +22,8 @@ use Rattle.struct_core.specs.declared.order.Task.{Task}
 use Rattle.struct_core.specs.declared.order.Task.TheVariants as tasks
 use Rattle.struct_core.specs.declared.order.Budgets.{Budgets}
 use Rattle.struct_core.specs.declared.order.Order.TheVariants.{Run}
-use Rattle.report.specs.FaultLines.{document_line, rule_line, wide_sum_line, wide_row_line, budget_line, limit_line, wide_bound_line}
-use Rattle.struct_core.specs.Enumerations.{AreListed, FailedStep, wide_sum, wide_row, row_budget, SemiflowOutcome, all_semiflows, step_fails, SetOutcome, all_sets, passes_limit, set_limit}
+use Rattle.report.specs.FaultLines.{document_line, rule_line, limit_line, wide_bound_line}
+use Rattle.struct_core.specs.Enumerations.{AreListed, SemiflowOutcome, all_semiflows, step_fails, SetOutcome, all_sets, passes_limit, set_limit}
 use Rattle.struct_core.specs.Outcome.{TaskOutcome, Profile, Outcome, no_document, broken, answer}
 use Rattle.struct_core.specs.Determined.{IsEliminationDecided, IsDecided, HasSomeOutcome}
 use Rattle.struct_core.specs.Laws.{CanonStays}
@@ -40,6 +37,11 @@ use Rattle.bounds.proofs.Sums.{Generate}
 use Rattle.struct_core.proofs.SomeBounds.{narrow_or_first_wide, all_kept, all_sized, all_least}
 use Rattle.struct_core.proofs.SomeVerdict.{verdict_of}
 use Rattle.struct_core.proofs.SomeLiveness.{some_liveness}
+use Rattle.struct_core.proofs.SomeFailure.{some_failure}
+use Rattle.struct_core.proofs.SomeCertificate.{some_cert_bounds, some_cert_verdict, some_verify, few_places}
+use Rattle.struct_core.specs.Determined.{IsSameText}
+use Rattle.struct_core.specs.Inputs.{front_of, rest_of}
+use Rattle.net_values.specs.declared.limits.TheConstants.{MAX_PLACES}
 use Rattle.struct_core.proofs.OneOutcome.{one_outcome}
 use Rattle.struct_core.proofs.SomeClass.{both, positive, ordinary_or_not, truth_of, tells_truth, some_class}
 use Rattle.page_flatten.proofs.Decisions.{Decided}
@@ -50,13 +52,6 @@ use Rattle.report.specs.VerdictTexts.{ProvesDeadlockFree, verdict_lines, deadloc
 use Rattle.struct_core.specs.Verdicts.{BoundOutcome, all_bounds, wide_bound, no_semiflows, IsVerdict, CommonerOutcome, verdict, no_siphons}
 
 -- ---- of a net
-
-some_failure : (m : Matrix) (columns : ℕ → List ℕ) (budget : ℕ) (fault : ElimFault) → IsFirstFail m budget fault
-    → (status : ℕ) × (line : List ℕ) × FailedStep m columns budget status line
-some_failure m columns budget faults.NoMemory fails = absurd fails.fails.2
-some_failure m columns budget (faults.WideSum j) fails = (4, wide_sum_line (columns j), wide_sum j fails)
-some_failure m columns budget (faults.WideRow j) fails = (4, wide_row_line (columns j), wide_row j fails)
-some_failure m columns budget (faults.RowBudget j count) fails = (5, budget_line budget (columns j) count, row_budget j count fails)
 
 some_semiflows : (m : Matrix) (ids columns : ℕ → List ℕ) (budget : ℕ) → IsEliminationDecided m budget
     → (status : ℕ) × (text : List ℕ) × SemiflowOutcome m ids columns budget status text
@@ -101,44 +96,49 @@ some_verdict net ids limit (inl few) one is =
     )
 some_verdict net ids limit (inr many) one is = (6, limit_line limit, no_siphons 6 (limit_line limit) (set_limit many.0 many.1))
 
-some_task_outcome : (task : Task) (budgets : Budgets) (document : Document) (net : NetLists) → IsDecided task budgets net
-    → (status : ℕ) × (text : List ℕ) × TaskOutcome task budgets document net status text
-some_task_outcome tasks.Check budgets document net decided = (0, check_text (net_of net).places (net_of net).transitions net.arcs, (refl, refl))
-some_task_outcome tasks.Canon budgets document net decided = (0, canon document, (refl, refl))
-some_task_outcome tasks.Class budgets document net decided =
+some_task_outcome : (task : Task) (budgets : Budgets) (document : Document) (net : NetLists) (rest : List ℕ) → (net_of net).places ≤ MAX_PLACES
+    → IsDecided task budgets net → (status : ℕ) × (text : List ℕ) × TaskOutcome task budgets document net rest status text
+some_task_outcome tasks.Check budgets document net rest limit decided = (0, check_text (net_of net).places (net_of net).transitions net.arcs, (refl, refl))
+some_task_outcome tasks.Canon budgets document net rest limit decided = (0, canon document, (refl, refl))
+some_task_outcome tasks.Class budgets document net rest limit decided =
     let class = some_class (net_of net) in (0, class_text class.0, (refl, class.0, class.1, refl))
-some_task_outcome tasks.Places budgets document net decided = some_semiflows _ _ _ _ decided
-some_task_outcome tasks.Transitions budgets document net decided = some_semiflows _ _ _ _ decided
-some_task_outcome tasks.Siphons budgets document net decided =
+some_task_outcome tasks.Places budgets document net rest limit decided = some_semiflows _ _ _ _ decided
+some_task_outcome tasks.Transitions budgets document net rest limit decided = some_semiflows _ _ _ _ decided
+some_task_outcome tasks.Siphons budgets document net rest limit decided =
     some_sets _ _ _ _ _ (few_or_many (net_of net) budgets.sets).siphons (lists_there (net_of net)).siphons
-some_task_outcome tasks.Traps budgets document net decided =
+some_task_outcome tasks.Traps budgets document net rest limit decided =
     some_sets _ _ _ _ _ (few_or_many (net_of net) budgets.sets).traps (lists_there (net_of net)).traps
-some_task_outcome tasks.Bounds budgets document net decided = some_bounds _ _ _ _ decided
-some_task_outcome tasks.Commoner budgets document net decided =
+some_task_outcome tasks.Bounds budgets document net rest limit decided = some_bounds _ _ _ _ decided
+some_task_outcome tasks.Commoner budgets document net rest limit decided =
     let is = verdict_of (net_of net) in some_verdict _ _ _ (few_or_many (net_of net) budgets.sets).siphons is.0 is.1
-some_task_outcome tasks.Live budgets document net decided = some_liveness _ _ _ (few_or_many (net_of net) budgets.sets).siphons (verdict_of (net_of net))
+some_task_outcome tasks.CertBounds budgets document net rest limit decided = some_cert_bounds _ _ _ _ _ decided
+some_task_outcome tasks.CertCommoner budgets document net rest limit decided =
+    some_cert_verdict _ _ _ limit (few_or_many (net_of net) budgets.sets).siphons (verdict_of (net_of net))
+some_task_outcome tasks.Verify budgets document net rest limit decided = some_verify (net_of net) rest
+some_task_outcome tasks.Live budgets document net rest limit decided = some_liveness _ _ _ (few_or_many (net_of net) budgets.sets).siphons (verdict_of (net_of net))
 
 -- ---- of an input
 
 module _ (task : Task) (budgets : Budgets) (input : List ℕ)
-    (decide : (document : Document) (net : NetLists) → Profile input document → Flat document net → IsDecided task budgets net) where
+    (decide : (document : Document) (net : NetLists) → Profile (front_of task input) document → Flat document net → IsDecided task budgets net) where
   abbrev Answered : Type 0
   Answered = (status : ℕ) × (text : List ℕ) × Outcome (Run task budgets) input status text
 
-  of_document : (document : Document) → DocBytes document input → HasFlatNet document ⊎ ((fault : FlatFault) × FirstBroken document fault) → Answered
+  of_document : (document : Document) → DocBytes document (front_of task input) → HasFlatNet document ⊎ ((fault : FlatFault) × FirstBroken document fault) → Answered
   of_document document spelled (inl flat) =
-      let profile : Profile input document = record { spelled = spelled; rules = flat.0 } in
-      let outcome = some_task_outcome task budgets document flat.1 (decide document flat.1 profile flat.2) in
+      let profile : Profile (front_of task input) document = record { spelled = spelled; rules = flat.0 } in
+      let outcome = some_task_outcome task budgets document flat.1 (rest_of task input) (few_places document flat.1 spelled flat.2)
+      (decide document flat.1 profile flat.2) in
       (outcome.0, outcome.1, answer task budgets input document flat.1 outcome.0 outcome.1 profile flat.2 outcome.2)
   of_document document spelled (inr broken_first) =
       (3, rule_line broken_first.0, broken task budgets input document broken_first.0 spelled broken_first.1)
 
-  of_input : ((document : Document) × DocBytes document input) ⊎ ((fault : Fault) × FirstFault input fault) → Answered
+  of_input : ((document : Document) × DocBytes document (front_of task input)) ⊎ ((fault : Fault) × FirstFault (front_of task input) fault) → Answered
   of_input (inl spelled) = of_document spelled.0 spelled.1 (net_or_fault spelled.0)
   of_input (inr fault) = (3, document_line fault.0, no_document task budgets input fault.0 fault.1)
 
 pub some_outcome : HasSomeOutcome
-some_outcome task budgets input decide = of_input task budgets input decide (some_answer input)
+some_outcome task budgets input decide = of_input task budgets input decide (some_answer (front_of task input))
 
 -- ---- canonical texts
 
@@ -148,7 +148,13 @@ canon_answered budgets document spelled rules (inl flat) =
     answer tasks.Canon budgets (canon document) document flat.1 0 (canon document) (record { spelled = spelled; rules = rules }) flat.2 (refl, refl)
 canon_answered budgets document spelled rules (inr fault) = absurd (breaks_where_faulty document fault.0 fault.1 rules)
 
+-- for `canon` no text has a tree
+no_tree : {budgets : Budgets} {status other : ℕ} {text line : List ℕ} → (status ≡ other) × IsSameText (Run tasks.Canon budgets) text line
+    → (status ≡ other) × (text ≡ line)
+no_tree (same, inl text) = (same, text)
+no_tree (same, inr tree) = (let is = tree.0.1 in absurd (cc))
+
 pub canon_stays : CanonStays
 canon_stays budgets document valued rules =
     let is = canon_answered budgets document (canon_is document valued) rules (net_or_fault document) in
-    (is, λ status text other. one_outcome (Run tasks.Canon budgets) (canon document) status 0 text (canon document) other is)
+    (is, λ status text other. no_tree (one_outcome (Run tasks.Canon budgets) (canon document) status 0 text (canon document) other is))

@@ -1,4 +1,4 @@
--- Bytes of the profile have the outcome of their task: they spell one document, which breaks no rule, and flat
+-- An input whose document is in the profile has the outcome of its task: its bytes spell one document, which breaks no rule, and flat
 -- nets of one document are one net.
 use Rattle.std.proofs.Common.{◌≡◌, ℕ, List, ap, subst, ◌∙◌}
 use Rattle.std.specs.Prelude.{codes}
@@ -22,6 +22,9 @@ use Rattle.struct_core.specs.declared.order.Budgets.{Budgets}
 use Rattle.struct_core.specs.declared.order.Order.TheVariants.{Run}
 use Rattle.struct_core.specs.Enumerations.{SemiflowOutcome, SetOutcome}
 use Rattle.struct_core.specs.Verdicts.{BoundOutcome, CommonerOutcome, LiveOutcome}
+use Rattle.struct_core.specs.Certificates.{CertBoundOutcome, CertVerdictOutcome, VerifyOutcome}
+use Rattle.struct_core.specs.Inputs.{front_of, rest_of}
+use Rattle.pnml_grammar.specs.Canon.{canon}
 use Rattle.struct_core.specs.Outcome.{HasClass, TaskOutcome, Profile, Outcome, no_document, broken, answer}
 use Rattle.struct_core.proofs.SameNets.{same_net, same_place_ids, same_transition_ids}
 
@@ -43,37 +46,44 @@ same_named one other same =
     ∙ ap {B = Named} (λ (ids : ℕ → List ℕ). (net_of other, ids, transition_id one)) (same_place_ids one other same)
     ∙ ap {B = Named} (λ (ids : ℕ → List ℕ). (net_of other, place_id other, ids)) (same_transition_ids one other same)
 
-outcome_as : (task : Task) (budgets : Budgets) (document : Document) (one other : NetLists) (status : ℕ) (text : List ℕ) → IsSameNet one other
-    → TaskOutcome task budgets document one status text → TaskOutcome task budgets document other status text
-outcome_as tasks.Check budgets document one other status text same is = (is.0, is.1 ∙ check_as one other same)
-outcome_as tasks.Canon budgets document one other status text same is = is
-outcome_as tasks.Class budgets document one other status text same is =
+outcome_as : (task : Task) (budgets : Budgets) (document : Document) (one other : NetLists) (rest : List ℕ) (status : ℕ) (text : List ℕ) → IsSameNet one other
+    → TaskOutcome task budgets document one rest status text → TaskOutcome task budgets document other rest status text
+outcome_as tasks.Check budgets document one other rest status text same is = (is.0, is.1 ∙ check_as one other same)
+outcome_as tasks.Canon budgets document one other rest status text same is = is
+outcome_as tasks.Class budgets document one other rest status text same is =
     (is.0, is.1, subst (λ net. HasClass net is.1) (same_net one other same) is.2, is.3)
-outcome_as tasks.Places budgets document one other status text same is =
+outcome_as tasks.Places budgets document one other rest status text same is =
     subst (λ (n : Named). SemiflowOutcome (incidence_of n.0) n.1 n.2 budgets.rows status text) (same_named one other same) is
-outcome_as tasks.Transitions budgets document one other status text same is =
+outcome_as tasks.Transitions budgets document one other rest status text same is =
     subst (λ (n : Named). SemiflowOutcome (transposed (incidence_of n.0)) n.2 n.1 budgets.rows status text) (same_named one other same) is
-outcome_as tasks.Siphons budgets document one other status text same is =
+outcome_as tasks.Siphons budgets document one other rest status text same is =
     subst (λ (n : Named). SetOutcome (IsMinimalSet n.0) (IsGrownSet n.0) (codes "siphons") n.1 budgets.sets status text) (same_named one other same) is
-outcome_as tasks.Traps budgets document one other status text same is =
+outcome_as tasks.Traps budgets document one other rest status text same is =
     subst (λ (n : Named). SetOutcome (IsMinimalTrapSet n.0) (IsGrownTrapSet n.0) (codes "traps") n.1 budgets.sets status text) (same_named one other same) is
-outcome_as tasks.Bounds budgets document one other status text same is =
+outcome_as tasks.Bounds budgets document one other rest status text same is =
     subst (λ (n : Named). BoundOutcome n.0 n.1 n.2 budgets.rows status text) (same_named one other same) is
-outcome_as tasks.Commoner budgets document one other status text same is =
+outcome_as tasks.Commoner budgets document one other rest status text same is =
     subst (λ (n : Named). CommonerOutcome n.0 n.1 budgets.sets status text) (same_named one other same) is
-outcome_as tasks.Live budgets document one other status text same is =
+outcome_as tasks.CertBounds budgets document one other rest status text same is =
+    subst (λ (n : Named). CertBoundOutcome n.0 (canon document) n.1 n.2 budgets.rows status text) (same_named one other same) is
+outcome_as tasks.CertCommoner budgets document one other rest status text same is =
+    subst (λ (net : Net). CertVerdictOutcome net (canon document) budgets.sets status text) (same_net one other same) is
+outcome_as tasks.Verify budgets document one other rest status text same is =
+    subst (λ (net : Net). VerifyOutcome net rest status text) (same_net one other same) is
+outcome_as tasks.Live budgets document one other rest status text same is =
     subst (λ (n : Named). LiveOutcome n.0 n.1 budgets.sets status text) (same_named one other same) is
 
 -- ---- an order
 
 -- of a document in the profile the outcome is that of the task
 pub task_answers : (task : Task) (budgets : Budgets) (bytes : List ℕ) (document : Document) (net : NetLists) (status : ℕ) (text : List ℕ)
-    → Profile bytes document → Flat document net → Outcome (Run task budgets) bytes status text → TaskOutcome task budgets document net status text
+    → Profile (front_of task bytes) document → Flat document net → Outcome (Run task budgets) bytes status text
+    → TaskOutcome task budgets document net (rest_of task bytes) status text
 task_answers _ _ _ document net _ _ profile flat (no_document task budgets bytes fault first) =
-    absurd ((one_answer bytes fault first).1 document profile.spelled)
+    absurd ((one_answer (front_of task bytes) fault first).1 document profile.spelled)
 task_answers _ _ _ document net _ _ profile flat (broken task budgets bytes other fault spelled first) =
-    absurd (breaks_where_faulty other fault first (subst BreaksNoRule (spells_one bytes document other profile.spelled spelled) profile.rules))
+    absurd (breaks_where_faulty other fault first (subst BreaksNoRule (spells_one (front_of task bytes) document other profile.spelled spelled) profile.rules))
 task_answers _ _ _ document net _ _ profile flat (answer task budgets bytes other lists status text kept is outcome) =
-    let same : other ≡ document = spells_one bytes other document kept.spelled profile.spelled in
-    outcome_as task budgets document lists net status text (one_flat document lists net profile.rules (subst (λ d. Flat d lists) same is) flat)
-    (subst (λ d. TaskOutcome task budgets d lists status text) same outcome)
+    let same : other ≡ document = spells_one (front_of task bytes) other document kept.spelled profile.spelled in
+    outcome_as task budgets document lists net (rest_of task bytes) status text (one_flat document lists net profile.rules (subst (λ d. Flat d lists) same is) flat)
+    (subst (λ d. TaskOutcome task budgets d lists (rest_of task bytes) status text) same outcome)

@@ -49,10 +49,10 @@ printed net ids columns budget _ _ (wide_bound list row listed wide) zero_is = a
 printed net ids columns budget _ _ (no_semiflows status line fails) zero_is = absurd (step_goes_on _ columns budget status line fails zero_is)
 
 pub prints_least_bounds : PrintLeastBounds
-prints_least_bounds budgets document net text outcome = printed _ _ _ _ 0 text outcome refl
+prints_least_bounds budgets document net rest text outcome = printed _ _ _ _ 0 text outcome refl
 
 pub prints_bounds_that_hold : PrintBoundsThatHold
-prints_bounds_that_hold budgets document net text outcome =
+prints_bounds_that_hold budgets document net rest text outcome =
     let bounds = printed _ _ _ _ 0 text outcome refl in (bounds.0, bounds.1, least_bounds_hold (net_of net) bounds.0 bounds.2)
 
 -- ---- Commoner's verdict
@@ -82,7 +82,7 @@ never_dies net ids limit _ _ (verdict one text few is spelled) zero_is same = ve
 never_dies net ids limit _ _ (no_siphons status line passed) zero_is same = absurd (limit_goes_on _ limit status line passed zero_is)
 
 pub proved_never_die : ProvedNetsNeverDie
-proved_never_die budgets document net outcome = never_dies (net_of net) (place_id net) budgets.sets 0 proved_text outcome refl refl
+proved_never_die budgets document net rest outcome = never_dies (net_of net) (place_id net) budgets.sets 0 proved_text outcome refl refl
 
 -- ---- liveness
 
@@ -104,4 +104,4 @@ lives net ids limit _ _ (liveness one is) zero_is same = is_live net ids limit o
 lives net ids limit _ _ (too_many_siphons carried asked many) zero_is same = absurd (omega (arith, zero_is))
 
 pub proved_live : ProvedNetsLive
-proved_live budgets document net outcome = lives (net_of net) (place_id net) budgets.sets 0 live_proved outcome refl refl
+proved_live budgets document net rest outcome = lives (net_of net) (place_id net) budgets.sets 0 live_proved outcome refl refl

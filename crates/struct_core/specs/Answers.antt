@@ -1,5 +1,5 @@
 -- Why there is no text: out of memory, or by an outcome that the refusal tells; and how a run ends by that.
-use Rattle.std.specs.Prelude.{◌≡◌, ◌⊎◌, ℕ, ◌≤◌, List, [], Result, Ok, Err}
+use Rattle.std.specs.Prelude.{◌≡◌, ◌≢◌, ◌⊎◌, ℕ, ◌≤◌, List, [], Result, Ok, Err}
 use Rattle.report.specs.declared.refusal.Refusal.{Refusal}
 use Rattle.report.specs.FaultLines.{memory_line}
 use Rattle.report.specs.Refusals.{status_of, line_of}
@@ -9,9 +9,10 @@ pub record IsMemory (refusal : Refusal) : Type 0 where
   pub status : status_of refusal ≡ 10
   pub line : line_of refusal ≡ memory_line
 
--- an outcome with a status of the middle, and with the line of the refusal
+-- an outcome with a status from 1 to 6 but not that of bad words, and with the line of the refusal
 pub record IsTold (Tells : ℕ → List ℕ → Type 0) (refusal : Refusal) : Type 0 where
-  pub low : 3 ≤ status_of refusal
+  pub low : 1 ≤ status_of refusal
+  pub not_usage : status_of refusal ≢ 2
   pub high : status_of refusal ≤ 6
   pub outcome : Tells (status_of refusal) (line_of refusal)
 

@@ -1,6 +1,6 @@
 -- When a run is sure to write its text: no device fails, the document is in the profile, the numbers of its
--- elimination stay narrow, and its search has few sets to meet.
-use Rattle.std.specs.Prelude.{◌≡◌, ◌⊎◌, ℕ, ◌-◌, ◌^◌, ◌≤◌, ◌<◌, List, Some, length}
+-- elimination stay narrow, its search has few sets to meet, and a certificate to be verified is accepted.
+use Rattle.std.specs.Prelude.{◌≡◌, ◌⊎◌, ℕ, ◌-◌, ◌^◌, ◌≤◌, ◌<◌, List, Option, Some, length}
 use Rattle.std.specs.Io.KnownBytes.{Appends}
 use Rattle.net_values.specs.declared.document.Document.{Document}
 use Rattle.net_values.specs.declared.limits.TheConstants.{MAX_INPUT_BYTES}
@@ -8,7 +8,12 @@ use Rattle.net_values.specs.FlatNets.{NetLists, net_of}
 use Rattle.net_values.specs.Net.{Net}
 use Rattle.net_values.specs.TheList.{IsTheList}
 use Rattle.page_flatten.specs.Flat.{Flat}
-use Rattle.bounds.specs.Listed.{IsFirstWideRow}
+use Rattle.bounds.specs.declared.place_bound.PlaceBound.{PlaceBound}
+use Rattle.bounds.specs.Listed.{IsFirstWideRow, NameFirstRows}
+use Rattle.cert_make.specs.BoundCertificates.{is_named, IsFirstWideCheck}
+use Rattle.certificates.specs.declared.certificate.Certificate.{Certificate}
+use Rattle.certificates.specs.BadLines.{Spells}
+use Rattle.certificates.specs.Conditions.{IsAccepted}
 use Rattle.incidence.specs.Semiflow.{all_columns}
 use Rattle.semiflow_elim.specs.Bases.{IsMinimalRow}
 use Rattle.std.specs.Cmp.Lexicographic.{slice_cmp}
@@ -23,6 +28,7 @@ use Rattle.struct_core.specs.declared.order.Budgets.{Budgets}
 use Rattle.struct_core.specs.declared.order.Order.{Order}
 use Rattle.struct_core.specs.declared.order.Order.TheVariants.{Run}
 use Rattle.free_choice_live.specs.Answers.{IsAsked}
+use Rattle.struct_core.specs.Inputs.{front_of, rest_of}
 use Rattle.struct_core.specs.Outcome.{Outcome, Profile}
 use Rattle.struct_core.specs.Run.{Device, HasRun}
 use Rattle.struct_core.specs.Words.{Means}
@@ -32,10 +38,10 @@ pub record IsQuiet (old new : Device) : Type 0 where
   pub steady : new.faults ≤ old.faults
   pub below : new.faults < 2 ^ 64 - 1
 
--- the input is no longer than may be read, and spells the document, which breaks no rule
-pub record IsShort (bytes : List ℕ) (document : Document) : Type 0 where
+-- the input is no longer than may be read, and the bytes of its document spell this one, which breaks no rule
+pub record IsShort (task : Task) (bytes : List ℕ) (document : Document) : Type 0 where
   pub length_is : length bytes ≤ MAX_INPUT_BYTES
-  pub profile : Profile bytes document
+  pub profile : Profile (front_of task bytes) document
 
 -- no step of the elimination fails
 abbrev pub NoStepFails : Matrix → ℕ → Type 0
@@ -46,11 +52,20 @@ abbrev pub NoBoundIsWide : Net → Type 0
 NoBoundIsWide net = (list : List (List ℕ)) (row : ℕ) → IsTheList (slice_cmp nat_cmp) (IsMinimalRow (incidence_of net) all_columns) list
     → IsFirstWideRow net list row → ⊥
 
+-- no semiflow that gives a bound has a wide sum
+abbrev pub NoCheckIsWide : Net → Type 0
+NoCheckIsWide net =
+    (list : List (List ℕ)) (bounds : List (Option PlaceBound)) (row column : ℕ)
+    → IsTheList (slice_cmp nat_cmp) (IsMinimalRow (incidence_of net) all_columns) list → NameFirstRows net list bounds
+    → IsFirstWideCheck net list (is_named bounds) row column → ⊥
+
 -- no number of the task is wide, and no step has more candidates than the budget
 abbrev pub IsNarrow : Task → Budgets → NetLists → Type 0
 IsNarrow tasks.Places budgets net = NoStepFails (incidence_of (net_of net)) budgets.rows
 IsNarrow tasks.Transitions budgets net = NoStepFails (transposed (incidence_of (net_of net))) budgets.rows
 IsNarrow tasks.Bounds budgets net = NoStepFails (incidence_of (net_of net)) budgets.rows × NoBoundIsWide (net_of net)
+IsNarrow tasks.CertBounds budgets net =
+    NoStepFails (incidence_of (net_of net)) budgets.rows × NoBoundIsWide (net_of net) × NoCheckIsWide (net_of net)
 IsNarrow _ budgets net = Unit
 
 -- the sets that the task's search meets are no more than the limit
@@ -58,8 +73,14 @@ abbrev pub IsFew : Task → Budgets → NetLists → Type 0
 IsFew tasks.Siphons budgets net = HasAtMostGrown (net_of net) budgets.sets
 IsFew tasks.Traps budgets net = HasAtMostGrownTraps (net_of net) budgets.sets
 IsFew tasks.Commoner budgets net = HasAtMostGrown (net_of net) budgets.sets
+IsFew tasks.CertCommoner budgets net = HasAtMostGrown (net_of net) budgets.sets
 IsFew tasks.Live budgets net = IsAsked (net_of net) → HasAtMostGrown (net_of net) budgets.sets
 IsFew _ budgets net = Unit
+
+-- the bytes after the document are what the task asks for: for `verify` a certificate that the net accepts
+abbrev pub IsCertified : Task → NetLists → List ℕ → Type 0
+IsCertified tasks.Verify net rest = (certificate : Certificate) × Spells certificate rest × IsAccepted (net_of net) certificate
+IsCertified _ net rest = Unit
 
 -- the status is 0, and the text of the order for the input was written
 pub record WritesText (order : Order) (input : List ℕ) (out out' : Device) (status : ℕ) : Type 0 where
@@ -69,12 +90,13 @@ pub record WritesText (order : Order) (input : List ℕ) (out out' : Device) (st
   pub written : Appends out.bytes out'.bytes text
 
 -- where the words mean a task, no device fails and the source tells a short input, whose net is narrow and
--- has few sets, the defined text is written, or memory was refused
+-- has few sets, and what follows the document is as the task asks, the defined text is written, or memory was
+-- refused
 abbrev pub QuietRunsComplete : Type 0
 QuietRunsComplete =
     (words : List (List ℕ)) (task : Task) (budgets : Budgets) (source source' out out' err err' : Device) (status : ℕ)
     (input : List ℕ) (document : Document) (net : NetLists)
     → HasRun words source source' out out' err err' status → Means words (Run task budgets)
-    → IsQuiet source source' → IsQuiet out out' → source.bytes ≡ Some input → IsShort input document
-    → Flat document net → IsNarrow task budgets net → IsFew task budgets net
+    → IsQuiet source source' → IsQuiet out out' → source.bytes ≡ Some input → IsShort task input document
+    → Flat document net → IsNarrow task budgets net → IsFew task budgets net → IsCertified task net (rest_of task input)
     → WritesText (Run task budgets) input out out' status ⊎ (status ≡ 10)

@@ -1,5 +1,5 @@
 -- Whether an order has an outcome for an input, and whether it has one only.
-use Rattle.std.specs.Prelude.{◌≡◌, ◌⊎◌, ℕ, List}
+use Rattle.std.specs.Prelude.{◌≡◌, ◌⊎◌, ℕ, List, ◌++◌}
 use Rattle.net_values.specs.declared.document.Document.{Document}
 use Rattle.net_values.specs.FlatNets.{NetLists, net_of}
 use Rattle.incidence.specs.Matrix.{Matrix, incidence_of, transposed}
@@ -8,19 +8,40 @@ use Rattle.semiflow_elim.specs.Generated.{IsGenerated}
 use Rattle.semiflow_elim.specs.FirstFail.{IsFirstFail}
 use Rattle.incidence.specs.Semiflow.{all_columns, IsSemiflow}
 use Rattle.page_flatten.specs.Flat.{Flat}
+use Rattle.pnml_grammar.specs.Canon.{canon}
+use Rattle.certificates.specs.declared.certificate.Certificate.TheVariants.{Commoner}
+use Rattle.certificates.specs.declared.certificate.TreeLine.{TreeLine}
+use Rattle.certificates.specs.Spelling.{certificate_text}
 use Rattle.struct_core.specs.declared.order.Task.{Task}
 use Rattle.struct_core.specs.declared.order.Task.TheVariants as tasks
 use Rattle.struct_core.specs.declared.order.Budgets.{Budgets}
 use Rattle.struct_core.specs.declared.order.Order.{Order}
 use Rattle.struct_core.specs.declared.order.Order.TheVariants.{Run}
 use Rattle.struct_core.specs.Enumerations.{AreListed}
+use Rattle.struct_core.specs.Inputs.{front_of}
 use Rattle.struct_core.specs.Outcome.{Outcome, Profile}
 
--- an order has at most one status and one text for an input
+-- two texts that begin with the same canonical text and go on with a certificate for Commoner's condition each
+pub record DifferInTree (text line : List ℕ) : Type 0 where
+  pub document : Document
+  pub one : List TreeLine
+  pub other : List TreeLine
+  pub text_is : text ≡ canon document ++ certificate_text (Commoner one)
+  pub line_is : line ≡ canon document ++ certificate_text (Commoner other)
+
+-- the order is for the certificate of Commoner's verdict
+abbrev pub AsksForATree : Order → Type 0
+AsksForATree order = (budgets : Budgets) × (order ≡ Run tasks.CertCommoner budgets)
+
+-- the same text, or for that certificate another tree
+abbrev pub IsSameText : Order → List ℕ → List ℕ → Type 0
+IsSameText order text line = (text ≡ line) ⊎ (AsksForATree order × DifferInTree text line)
+
+-- an order has at most one status for an input, and one text but for the tree of a certificate
 abbrev pub HasOneOutcome : Type 0
 HasOneOutcome =
     (order : Order) (input : List ℕ) (status other : ℕ) (text line : List ℕ) → Outcome order input status text → Outcome order input other line
-    → (status ≡ other) × (text ≡ line)
+    → (status ≡ other) × IsSameText order text line
 
 -- every step passes and a list has the semiflows of minimal support, which generate all, or a step fails first
 abbrev pub IsEliminationDecided : Matrix → ℕ → Type 0
@@ -33,11 +54,12 @@ abbrev pub IsDecided : Task → Budgets → NetLists → Type 0
 IsDecided tasks.Places budgets net = IsEliminationDecided (incidence_of (net_of net)) budgets.rows
 IsDecided tasks.Transitions budgets net = IsEliminationDecided (transposed (incidence_of (net_of net))) budgets.rows
 IsDecided tasks.Bounds budgets net = IsEliminationDecided (incidence_of (net_of net)) budgets.rows
+IsDecided tasks.CertBounds budgets net = IsEliminationDecided (incidence_of (net_of net)) budgets.rows
 IsDecided _ budgets net = Unit
 
 -- every input has an outcome, where the elimination of its net is decided
 abbrev pub HasSomeOutcome : Type 0
 HasSomeOutcome =
     (task : Task) (budgets : Budgets) (input : List ℕ)
-    → ((document : Document) (net : NetLists) → Profile input document → Flat document net → IsDecided task budgets net)
+    → ((document : Document) (net : NetLists) → Profile (front_of task input) document → Flat document net → IsDecided task budgets net)
     → (status : ℕ) × (text : List ℕ) × Outcome (Run task budgets) input status text

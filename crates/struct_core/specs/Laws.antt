@@ -1,5 +1,5 @@
 -- What the outcomes of runs tell.
-use Rattle.std.specs.Prelude.{◌≡◌, ℕ, List, Bool, Option, All, length, slice_index, codes}
+use Rattle.std.specs.Prelude.{◌≡◌, ◌⊎◌, ℕ, List, Bool, Option, All, length, slice_index, codes}
 use Rattle.net_values.specs.declared.document.Document.{Document}
 use Rattle.net_values.specs.FlatNets.{NetLists, net_of}
 use Rattle.net_values.specs.PlaceSets.{has}
@@ -10,6 +10,11 @@ use Rattle.pnml_grammar.specs.Canon.{canon}
 use Rattle.pnml_grammar.specs.Valued.{Valued}
 use Rattle.page_flatten.specs.Rules.{BreaksNoRule}
 use Rattle.net_values.specs.Nodes.{place_id, transition_id}
+use Rattle.certificates.specs.declared.certificate.Certificate.{Certificate}
+use Rattle.certificates.specs.BadLines.{Spells}
+use Rattle.certificates.specs.Claims.{HasTrueClaim}
+use Rattle.report.specs.VerifiedTexts.{IsVerifiedText}
+use Rattle.net_values.specs.Net.{Net}
 use Rattle.bounds.specs.declared.place_bound.PlaceBound.{PlaceBound}
 use Rattle.bounds.specs.Listed.{AreLeastBounds, BoundsHold}
 use Rattle.closed_sets.specs.Commoner.{IsDeadlockFree}
@@ -35,43 +40,65 @@ ListsSets word ids Property text = (list : List (List Bool)) × All Property lis
 -- every vector that `places` and `transitions` print is a semiflow
 abbrev pub PrintSemiflows : Type 0
 PrintSemiflows =
-    (budgets : Budgets) (document : Document) (net : NetLists) (text : List ℕ)
-    → (TaskOutcome tasks.Places budgets document net 0 text → ListsVectors (place_id net) (IsSemiflowRow (incidence_of (net_of net))) text)
-    × (TaskOutcome tasks.Transitions budgets document net 0 text
+    (budgets : Budgets) (document : Document) (net : NetLists) (rest text : List ℕ)
+    → (TaskOutcome tasks.Places budgets document net rest 0 text → ListsVectors (place_id net) (IsSemiflowRow (incidence_of (net_of net))) text)
+    × (TaskOutcome tasks.Transitions budgets document net rest 0 text
     → ListsVectors (transition_id net) (IsSemiflowRow (transposed (incidence_of (net_of net)))) text)
 
 -- every set that `siphons` prints is a siphon, and every set that `traps` prints a trap
 abbrev pub PrintClosedSets : Type 0
 PrintClosedSets =
-    (budgets : Budgets) (document : Document) (net : NetLists) (text : List ℕ)
-    → (TaskOutcome tasks.Siphons budgets document net 0 text
+    (budgets : Budgets) (document : Document) (net : NetLists) (rest text : List ℕ)
+    → (TaskOutcome tasks.Siphons budgets document net rest 0 text
     → ListsSets (codes "siphons") (place_id net) (λ set. IsSiphon (net_of net) (has set)) text)
-    × (TaskOutcome tasks.Traps budgets document net 0 text
+    × (TaskOutcome tasks.Traps budgets document net rest 0 text
     → ListsSets (codes "traps") (place_id net) (λ set. IsTrap (net_of net) (has set)) text)
 
 -- what `bounds` prints is a bound for each place, and none that it prints is passed at a reachable marking
 abbrev pub PrintBoundsThatHold : Type 0
 PrintBoundsThatHold =
-    (budgets : Budgets) (document : Document) (net : NetLists) (text : List ℕ) → TaskOutcome tasks.Bounds budgets document net 0 text
+    (budgets : Budgets) (document : Document) (net : NetLists) (rest text : List ℕ) → TaskOutcome tasks.Bounds budgets document net rest 0 text
     → (bounds : List (Option PlaceBound)) × (text ≡ bounds_text (place_id net) bounds) × BoundsHold (net_of net) bounds
 
 -- and it is the least bound that a semiflow of places gives
 abbrev pub PrintLeastBounds : Type 0
 PrintLeastBounds =
-    (budgets : Budgets) (document : Document) (net : NetLists) (text : List ℕ) → TaskOutcome tasks.Bounds budgets document net 0 text
+    (budgets : Budgets) (document : Document) (net : NetLists) (rest text : List ℕ) → TaskOutcome tasks.Bounds budgets document net rest 0 text
     → (bounds : List (Option PlaceBound)) × (text ≡ bounds_text (place_id net) bounds) × AreLeastBounds (net_of net) bounds
 
 -- where `commoner` prints that freedom from deadlock is proved, no reachable marking is dead
 abbrev pub ProvedNetsNeverDie : Type 0
 ProvedNetsNeverDie =
-    (budgets : Budgets) (document : Document) (net : NetLists)
-    → TaskOutcome tasks.Commoner budgets document net 0 (codes "commoner yes\ndeadlock-free proved\n") → IsDeadlockFree (net_of net)
+    (budgets : Budgets) (document : Document) (net : NetLists) (rest : List ℕ)
+    → TaskOutcome tasks.Commoner budgets document net rest 0 (codes "commoner yes\ndeadlock-free proved\n") → IsDeadlockFree (net_of net)
 
 -- where `live` prints that the net is proved to be live, it is
 abbrev pub ProvedNetsLive : Type 0
 ProvedNetsLive =
-    (budgets : Budgets) (document : Document) (net : NetLists) → TaskOutcome tasks.Live budgets document net 0 (codes "live proved\n")
+    (budgets : Budgets) (document : Document) (net : NetLists) (rest : List ℕ) → TaskOutcome tasks.Live budgets document net rest 0 (codes "live proved\n")
     → IsLive (net_of net)
+
+-- a certificate that `verify` accepts: the bytes after the document spell it, the text tells its kind, what it claims is
+-- true of the net, and where the text tells that freedom from deadlock is proved, no reachable marking is dead
+pub record IsTrueCertificate (net : Net) (rest text : List ℕ) : Type 0 where
+  pub certificate : Certificate
+  pub spelled : Spells certificate rest
+  pub told : IsVerifiedText net certificate text
+  pub claim : HasTrueClaim net certificate
+  pub safe : text ≡ codes "accepted commoner\ndeadlock-free proved\n" → IsDeadlockFree net
+
+-- every certificate that `verify` accepts is true
+abbrev pub AcceptedCertificatesAreTrue : Type 0
+AcceptedCertificatesAreTrue =
+    (budgets : Budgets) (document : Document) (net : NetLists) (rest text : List ℕ) → TaskOutcome tasks.Verify budgets document net rest 0 text
+    → IsTrueCertificate (net_of net) rest text
+
+-- what `cert-bounds` and `cert-commoner` write `verify` accepts
+abbrev pub MadeCertificatesAreAccepted : Type 0
+MadeCertificatesAreAccepted =
+    (budgets others : Budgets) (input text : List ℕ)
+    → Outcome (Run tasks.CertBounds budgets) input 0 text ⊎ Outcome (Run tasks.CertCommoner budgets) input 0 text
+    → (line : List ℕ) × Outcome (Run tasks.Verify others) text 0 line
 
 -- `canon` of the canonical text of a valued document that breaks no rule writes that text, and does nothing else
 abbrev pub CanonStays : Type 0

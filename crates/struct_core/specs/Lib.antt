@@ -3,6 +3,8 @@ pub mod Words
 pub mod Matrices
 pub mod Enumerations
 pub mod Verdicts
+pub mod Certificates
+pub mod Inputs
 pub mod Outcome
 pub mod Answers
 pub mod Run

@@ -24,7 +24,9 @@ use Rattle.struct_core.specs.declared.order.Order.{Order}
 use Rattle.struct_core.specs.declared.order.Order.TheVariants.{Run}
 use Rattle.report.specs.FaultLines.{document_line, rule_line}
 use Rattle.struct_core.specs.Enumerations.{SemiflowOutcome, SetOutcome}
+use Rattle.struct_core.specs.Inputs.{front_of, rest_of}
 use Rattle.struct_core.specs.Verdicts.{BoundOutcome, CommonerOutcome, LiveOutcome}
+use Rattle.struct_core.specs.Certificates.{CertBoundOutcome, CertVerdictOutcome, VerifyOutcome}
 
 -- the classes to which a net belongs (Murata 1989)
 pub record HasClass (net : Net) (class : Class) : Type 0 where
@@ -33,40 +35,44 @@ pub record HasClass (net : Net) (class : Class) : Type 0 where
   pub marked_graph : IsTrue class.marked_graph ↔ IsMarkedGraph net
   pub free_choice : IsTrue class.free_choice ↔ IsFreeChoice net
 
--- what a task gives for a document that breaks no rule, and for its flat net
-abbrev pub TaskOutcome : Task → Budgets → Document → NetLists → ℕ → List ℕ → Type 0
-TaskOutcome tasks.Check budgets document net status text =
+-- what a task gives for a document that breaks no rule, for its flat net, and for what follows its bytes
+abbrev pub TaskOutcome : Task → Budgets → Document → NetLists → List ℕ → ℕ → List ℕ → Type 0
+TaskOutcome tasks.Check budgets document net rest status text =
     (status ≡ 0) × (text ≡ check_text (net_of net).places (net_of net).transitions net.arcs)
-TaskOutcome tasks.Canon budgets document net status text = (status ≡ 0) × (text ≡ canon document)
-TaskOutcome tasks.Class budgets document net status text =
+TaskOutcome tasks.Canon budgets document net rest status text = (status ≡ 0) × (text ≡ canon document)
+TaskOutcome tasks.Class budgets document net rest status text =
     (status ≡ 0) × (class : Class) × HasClass (net_of net) class × (text ≡ class_text class)
-TaskOutcome tasks.Places budgets document net status text =
+TaskOutcome tasks.Places budgets document net rest status text =
     SemiflowOutcome (incidence_of (net_of net)) (place_id net) (transition_id net) budgets.rows status text
-TaskOutcome tasks.Transitions budgets document net status text =
+TaskOutcome tasks.Transitions budgets document net rest status text =
     SemiflowOutcome (transposed (incidence_of (net_of net))) (transition_id net) (place_id net) budgets.rows status text
-TaskOutcome tasks.Siphons budgets document net status text =
+TaskOutcome tasks.Siphons budgets document net rest status text =
     SetOutcome (IsMinimalSet (net_of net)) (IsGrownSet (net_of net)) (codes "siphons") (place_id net) budgets.sets status text
-TaskOutcome tasks.Traps budgets document net status text =
+TaskOutcome tasks.Traps budgets document net rest status text =
     SetOutcome (IsMinimalTrapSet (net_of net)) (IsGrownTrapSet (net_of net)) (codes "traps") (place_id net) budgets.sets status text
-TaskOutcome tasks.Bounds budgets document net status text =
+TaskOutcome tasks.Bounds budgets document net rest status text =
     BoundOutcome (net_of net) (place_id net) (transition_id net) budgets.rows status text
-TaskOutcome tasks.Commoner budgets document net status text = CommonerOutcome (net_of net) (place_id net) budgets.sets status text
-TaskOutcome tasks.Live budgets document net status text = LiveOutcome (net_of net) (place_id net) budgets.sets status text
+TaskOutcome tasks.Commoner budgets document net rest status text = CommonerOutcome (net_of net) (place_id net) budgets.sets status text
+TaskOutcome tasks.CertBounds budgets document net rest status text =
+    CertBoundOutcome (net_of net) (canon document) (place_id net) (transition_id net) budgets.rows status text
+TaskOutcome tasks.CertCommoner budgets document net rest status text = CertVerdictOutcome (net_of net) (canon document) budgets.sets status text
+TaskOutcome tasks.Verify budgets document net rest status text = VerifyOutcome (net_of net) rest status text
+TaskOutcome tasks.Live budgets document net rest status text = LiveOutcome (net_of net) (place_id net) budgets.sets status text
 
 -- the bytes spell the document, and it breaks no rule
 pub record Profile (bytes : List ℕ) (document : Document) : Type 0 where
   pub spelled : DocBytes document bytes
   pub rules : BreaksNoRule document
 
--- what an order gives for an input
+-- what an order gives for an input, by the bytes of its document
 pub data Outcome : Order → List ℕ → ℕ → List ℕ → Type 0 where
   -- the bytes spell no document
-  no_document : (task : Task) (budgets : Budgets) (bytes : List ℕ) (fault : Fault) → FirstFault bytes fault
+  no_document : (task : Task) (budgets : Budgets) (bytes : List ℕ) (fault : Fault) → FirstFault (front_of task bytes) fault
       → Outcome (Run task budgets) bytes 3 (document_line fault)
   -- they spell one that breaks a rule
   broken : (task : Task) (budgets : Budgets) (bytes : List ℕ) (document : Document) (fault : FlatFault)
-      → DocBytes document bytes → FirstBroken document fault → Outcome (Run task budgets) bytes 3 (rule_line fault)
+      → DocBytes document (front_of task bytes) → FirstBroken document fault → Outcome (Run task budgets) bytes 3 (rule_line fault)
   -- they spell one that breaks none
   answer : (task : Task) (budgets : Budgets) (bytes : List ℕ) (document : Document) (net : NetLists) (status : ℕ) (text : List ℕ)
-      → Profile bytes document → Flat document net → TaskOutcome task budgets document net status text
+      → Profile (front_of task bytes) document → Flat document net → TaskOutcome task budgets document net (rest_of task bytes) status text
       → Outcome (Run task budgets) bytes status text

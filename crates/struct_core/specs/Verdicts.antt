@@ -6,7 +6,7 @@ use Rattle.std.specs.Ordering.{bool_cmp}
 use Rattle.net_values.specs.Net.{Net}
 use Rattle.net_values.specs.TheList.{IsTheList}
 use Rattle.bounds.specs.declared.place_bound.PlaceBound.{PlaceBound}
-use Rattle.bounds.specs.Listed.{AreLeastBounds, AreNarrowRows, IsFirstWideRow}
+use Rattle.bounds.specs.Listed.{AreLeastBounds, AreNarrowRows, NameFirstRows, IsFirstWideRow}
 use Rattle.closed_sets.specs.Commoner.{MeetsCommoner}
 use Rattle.closed_sets.specs.MinimalSets.{IsMinimalSet}
 use Rattle.incidence.specs.Matrix.{incidence_of}
@@ -22,6 +22,10 @@ use Rattle.report.specs.Texts.{bounds_text}
 use Rattle.report.specs.VerdictTexts.{IsCommonerText}
 use Rattle.struct_core.specs.Enumerations.{AreListed, FailedStep, PassedLimit}
 
+-- the first listed semiflow that is wide
+pub data FirstWide (net : Net) (list : List (List ℕ)) : ℕ → List ℕ → Type 0 where
+  first_wide : (row : ℕ) → IsFirstWideRow net list row → FirstWide net list 4 (wide_bound_line row)
+
 -- for the bounds of the places, by the list of their minimal semiflows
 pub data BoundOutcome (net : Net) (ids columns : ℕ → List ℕ) (budget : ℕ) : ℕ → List ℕ → Type 0 where
   -- no listed semiflow is wide: the least bound of each place over all semiflows
@@ -34,6 +38,14 @@ pub data BoundOutcome (net : Net) (ids columns : ℕ → List ℕ) (budget : ℕ
   -- there is no list
   no_semiflows : (status : ℕ) (line : List ℕ) → FailedStep (incidence_of net) columns budget status line
       → BoundOutcome net ids columns budget status line
+
+-- the least bounds of the places, each with the first listed semiflow that gives it
+pub record AreBounds (net : Net) (budget : ℕ) (list : List (List ℕ)) (bounds : List (Option PlaceBound)) : Type 0 where
+  pub listed : AreListed (incidence_of net) budget list
+  pub narrow : AreNarrowRows net list (length list)
+  pub size : length bounds ≡ net.places
+  pub least : AreLeastBounds net bounds
+  pub first : NameFirstRows net list bounds
 
 -- Commoner's verdict: yes exactly where every nonempty siphon contains a marked trap, no with the first of all
 -- minimal siphons that contains none

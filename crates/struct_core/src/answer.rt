@@ -3,11 +3,14 @@ ghost use Rattle.struct_core.specs.declared.order.Order.{Order as Ordered};
 ghost use Rattle.struct_core.specs.Outcome.{Outcome, TaskOutcome};
 ghost use Rattle.struct_core.specs.Answers.{FailsWith};
 
+use crate::certified::{bounds_certified, verdict_certified};
+use crate::inputs::split;
 use crate::order::{Budgets, Order, Task};
 use crate::place_bounds::bound_report;
 use crate::semiflows::semiflow_report;
 use crate::siphons::{siphon_report, trap_report};
 use crate::verdicts::{commoner_report, live_report};
+use crate::verified::verify_report;
 use net_class::class;
 use net_values::{Document, FlatNet, NodeKind, Text};
 use page_flatten::flatten;
@@ -31,7 +34,8 @@ fn answer_task(alloc: Global, task: Task, budgets: Budgets, bytes: &[u8]) -> Res
     ensures text { IfOk result (Outcome (Ordered.Run task budgets) bytes.now 0) }
     ensures refused { IfErr result (FailsWith (Outcome (Ordered.Run task budgets) bytes.now)) }
 {
-    let document = match decode(alloc, bytes) {
+    let (front, rest) = split(task, bytes);
+    let document = match decode(alloc, front) {
         Ok(document) => document,
         Err(fault) => return Err(Refusal::Document(fault)),
     };
@@ -39,19 +43,20 @@ fn answer_task(alloc: Global, task: Task, budgets: Budgets, bytes: &[u8]) -> Res
         Ok(net) => net,
         Err(fault) => return Err(Refusal::Rule(fault)),
     };
-    text_of(alloc, task, budgets, &document, &net)
+    text_of(alloc, task, budgets, &document, &net, rest)
 }
 
-/// The text of a task for a document and its flat net.
+/// The text of a task for a document, its flat net and what follows its bytes.
 fn text_of(
     alloc: Global,
     task: Task,
     budgets: Budgets,
     document: &Document,
     net: &FlatNet,
+    rest: &[u8],
 ) -> Result<Text, Refusal>
-    ensures text { IfOk result (TaskOutcome task budgets document.now net.now 0) }
-    ensures refused { IfErr result (FailsWith (TaskOutcome task budgets document.now net.now)) }
+    ensures text { IfOk result (TaskOutcome task budgets document.now net.now rest.now 0) }
+    ensures refused { IfErr result (FailsWith (TaskOutcome task budgets document.now net.now rest.now)) }
 {
     match task {
         Task::Check => Ok(check_text(alloc, document, net)?),
@@ -63,6 +68,9 @@ fn text_of(
         Task::Traps => trap_report(alloc, net, budgets.sets),
         Task::Bounds => bound_report(alloc, net, budgets.rows),
         Task::Commoner => commoner_report(alloc, net, budgets.sets),
+        Task::CertBounds => bounds_certified(alloc, document, net, budgets.rows),
+        Task::CertCommoner => verdict_certified(alloc, document, net, budgets.sets),
+        Task::Verify => verify_report(alloc, net, rest),
         Task::Live => live_report(alloc, net, budgets.sets),
     }
 }

@@ -1,6 +1,6 @@
 ghost use Rattle.struct_core.specs.Completeness.{QuietRunsComplete};
 ghost use Rattle.struct_core.specs.Determined.{HasOneOutcome, HasSomeOutcome};
-ghost use Rattle.struct_core.specs.Laws.{PrintSemiflows, PrintClosedSets, PrintBoundsThatHold, PrintLeastBounds, ProvedNetsNeverDie, ProvedNetsLive, CanonStays};
+ghost use Rattle.struct_core.specs.Laws.{PrintSemiflows, PrintClosedSets, PrintBoundsThatHold, PrintLeastBounds, ProvedNetsNeverDie, ProvedNetsLive, AcceptedCertificatesAreTrue, MadeCertificatesAreAccepted, CanonStays};
 
 /// Every vector that `places` and `transitions` print is a semiflow (Colom and Silva 1991).
 pub fn printed_vectors_are_semiflows()
@@ -34,24 +34,36 @@ pub fn proved_nets_are_live()
     ensures { ProvedNetsLive }
 {}
 
+/// Where `verify` accepts a certificate, what it claims is true of the net, and where it also prints
+/// `deadlock-free proved`, no reachable marking is dead (Lautenbach 1975, Hack 1972, Murata 1989).
+pub fn accepted_certificates_are_true()
+    ensures { AcceptedCertificatesAreTrue }
+{}
+
+/// What `cert-bounds` and `cert-commoner` write `verify` accepts.
+pub fn made_certificates_are_accepted()
+    ensures { MadeCertificatesAreAccepted }
+{}
+
 /// `canon` of a canonical text writes that text and does nothing else, where the document breaks no rule.
 pub fn canonical_text_stays()
     ensures { CanonStays }
 {}
 
-/// An order has at most one status and one text for an input.
+/// An order has at most one status for an input, and one text but for the tree of a certificate for Commoner's
+/// condition.
 pub fn one_outcome()
     ensures { HasOneOutcome }
 {}
 
-/// Every input has an outcome; for the semiflows and the bounds, where it is decided that every step of the
+/// Every input has an outcome; for the semiflows, the bounds and their certificate, where it is decided that every step of the
 /// elimination passes or that one fails first.
 pub fn some_outcome()
     ensures { HasSomeOutcome }
 {}
 
-/// A run without faults, on a document of the profile whose net stays within the limits of the task,
-/// writes the defined text, or memory was refused.
+/// A run without faults, on a document of the profile whose net stays within the limits of the task, and for
+/// `verify` with a certificate that the net accepts, writes the defined text, or memory was refused.
 pub fn quiet_runs_complete()
     ensures { QuietRunsComplete }
 {}

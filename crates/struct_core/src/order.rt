@@ -19,6 +19,12 @@ pub enum Task {
     Bounds,
     /// Whether every siphon contains a marked trap.
     Commoner,
+    /// A certificate of the bounds.
+    CertBounds,
+    /// A certificate of the answer to whether every siphon contains a marked trap.
+    CertCommoner,
+    /// The check of a certificate.
+    Verify,
     /// Whether a free-choice net is proved to be live.
     Live,
 }

@@ -1,7 +1,7 @@
 ghost use Rattle.std.specs.Prelude.{◌≡◌, ◌∷◌, [], ℕ, List as Listed, IfSome, IfNone};
 ghost use Rattle.struct_core.specs.declared.order.Order.{Order as Meaning};
 ghost use Rattle.struct_core.specs.declared.order.Task.{Task as Meant};
-ghost use Rattle.struct_core.specs.Words.{Means, task_word, IsNoEnumeration, IsNoVerdict};
+ghost use Rattle.struct_core.specs.Words.{Means, task_word, IsNoEnumeration, IsNoVerdict, IsNoCertificate};
 
 use crate::order::{Budgets, Order, Task};
 use net_values::{List, Text};
@@ -26,6 +26,12 @@ const TRAPS: &[u8] = b"traps";
 const BOUNDS: &[u8] = b"bounds";
 
 const COMMONER: &[u8] = b"commoner";
+
+const CERT_BOUNDS: &[u8] = b"cert-bounds";
+
+const CERT_COMMONER: &[u8] = b"cert-commoner";
+
+const VERIFY: &[u8] = b"verify";
 
 const LIVE: &[u8] = b"live";
 
@@ -91,6 +97,22 @@ fn verdict_of(word: &[u8]) -> Option<Task>
         Some(Task::Commoner)
     } else if word == LIVE {
         Some(Task::Live)
+    } else {
+        certificate_of(word)
+    }
+}
+
+/// The task that makes or checks a certificate, by its word.
+fn certificate_of(word: &[u8]) -> Option<Task>
+    ensures found { IfSome result (λ task. word.now ≡ task_word task) }
+    ensures none { IfNone result (IsNoCertificate word.now) }
+{
+    if word == CERT_BOUNDS {
+        Some(Task::CertBounds)
+    } else if word == CERT_COMMONER {
+        Some(Task::CertCommoner)
+    } else if word == VERIFY {
+        Some(Task::Verify)
     } else {
         None
     }

@@ -119,6 +119,19 @@ pub fn check_input(
     input: Vec<u8>,
     wanted: &[u8],
 ) -> Result<(), NoMemory> {
+    let (status, out, err) = run_input(alloc, row, input)?;
+    assert_eq!(rt; status, row.status, "{}", row.shows);
+    assert_eq!(rt; out.bytes(), wanted, "{}", row.shows);
+    assert_eq!(rt; err.bytes(), row.err, "{}", row.shows);
+    Ok(())
+}
+
+/// Runs a row on an input, and gives its status and the two sinks.
+pub fn run_input(
+    alloc: Global,
+    row: &Row<'_>,
+    input: Vec<u8>,
+) -> Result<(u8, MemorySink, MemorySink), NoMemory> {
     let words = words(alloc, row.words)?;
     let mut source = MemorySource::new(
         input,
@@ -138,8 +151,5 @@ pub fn check_input(
         Vec::from_slice(alloc, row.failing_lines)?,
     )?;
     let status = run(alloc, &words, &mut source, &mut out, &mut err);
-    assert_eq!(rt; status, row.status, "{}", row.shows);
-    assert_eq!(rt; out.bytes(), wanted, "{}", row.shows);
-    assert_eq!(rt; err.bytes(), row.err, "{}", row.shows);
-    Ok(())
+    Ok((status, out, err))
 }

@@ -5,6 +5,8 @@
 #[cfg(test)]
 mod bounds_and_verdicts;
 #[cfg(test)]
+mod certificates;
+#[cfg(test)]
 mod classes;
 #[cfg(test)]
 mod devices;

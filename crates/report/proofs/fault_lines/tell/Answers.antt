@@ -15,3 +15,6 @@ returns-in-WriteFault g c = rw c.in-WriteFault.is c.write_all-in-WriteFault.ensu
 
 pub returns-in-NoMemory : goal.returns-in-NoMemory
 returns-in-NoMemory g c = rw c.in-NoMemory.is c.write_all-in-NoMemory.ensures
+
+pub returns-in-Malformed : goal.returns-in-Malformed
+returns-in-Malformed g c = rw c.in-Malformed.is c.tell_line.ensures
