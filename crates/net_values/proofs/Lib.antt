@@ -9,3 +9,4 @@ pub mod PlaceSets
 pub mod PlaceWords
 pub mod PlaceFlips
 pub mod PlaceOrder
+pub mod Supports
