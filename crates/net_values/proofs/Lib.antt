@@ -11,3 +11,4 @@ pub mod PlaceSets
 pub mod PlaceWords
 pub mod PlaceFlips
 pub mod PlaceOrder
+pub mod Supports

@@ -47,6 +47,14 @@ impl<T: Listed> AlikeList<T> {
         }
     }
 
+    /// The list of these members, all of one length. It takes no memory.
+    pub fn from_members(members: Vec<T>) -> AlikeList<T>
+        requires { AreAlike T.size members.items }
+        ensures { result ≡ members.items }
+    {
+        AlikeList { members }
+    }
+
     /// The number of members.
     pub fn len(&self) -> usize
         ensures { result ≡ length self.now }

@@ -194,6 +194,7 @@ fn sets_keep_their_places_across_words(rt: HostRuntime) -> Result<(), Fail> {
         assert!(rt; p < set.size());
         set.insert(p);
     }
+    assert!(rt; set.size() == 4096);
     set.remove(63);
     let others = set.complement(alloc)?;
     assert!(rt; set.size() == 4096 && others.size() == 4096);

@@ -5,30 +5,33 @@ ghost use Rattle.std.specs.Cmp.{partial_order_from_own_ties};
 ghost use Rattle.std.specs.Cmp.Lexicographic.{slice_cmp};
 ghost use Rattle.std.specs.Cmp.Rules.{comparing};
 ghost use Rattle.std.specs.Ordering.{is_eq, as_partial_cmp, nat_cmp};
-ghost use Rattle.net_values.specs.Vectors.{IsVector, positive_part};
+ghost use Rattle.net_values.specs.Vectors.{IsVector, positive_part, support_of};
 
 use crate::alike::{AlikeList, Listed};
 use crate::limits::MAX_ENTRIES;
 use crate::no_memory::NoMemory;
+use crate::place_set::PlaceSet;
 use std::alloc::Global;
 use std::cmp::Ordering;
 use std::marker::Model;
 
-/// A list of at most `MAX_ENTRIES` entries, none negative. Contracts see it as the list of natural numbers.
+/// A list of at most `MAX_ENTRIES` entries, none negative. Contracts see it as the list of natural numbers. It
+/// keeps the set of the positions of its positive entries.
 #[derive(Drop)]
 pub struct Vector {
     entries: Vec<u128>,
+    support: PlaceSet,
 }
 
 impl Model for Vector {
     ghost use Rattle.std.specs.Prelude.{List, ℕ};
-    ghost use Rattle.net_values.specs.Vectors.{IsVector};
+    ghost use Rattle.net_values.specs.Vectors.{IsKept};
 
     ghost Value = { List ℕ };
 
     ghost view = { λ v. v.entries.items };
 
-    ghost invariant = { λ v. IsVector v.entries.items };
+    ghost invariant = { λ v. IsKept v.entries.items v.support };
 }
 
 impl Vector {
@@ -39,15 +42,17 @@ impl Vector {
     {
         Ok(Vector {
             entries: vec![in alloc; 0u128; length]?,
+            support: PlaceSet::new(alloc, length)?,
         })
     }
 
-    /// The vector with these entries, each at most 2^127 - 1. It takes no memory.
-    pub fn from_entries(entries: Vec<u128>) -> Vector
+    /// The vector with these entries, each at most 2^127 - 1.
+    pub fn from_entries(alloc: Global, entries: Vec<u128>) -> Result<Vector, NoMemory>
         requires { IsVector entries.items }
-        ensures { result ≡ entries.items }
+        ensures { IfOk result (λ vector. vector ≡ entries.items) }
     {
-        Vector { entries }
+        let support = positive_positions(alloc, entries.as_slice())?;
+        Ok(Vector { entries, support })
     }
 
     /// An equal vector.
@@ -56,6 +61,7 @@ impl Vector {
     {
         Ok(Vector {
             entries: Vec::from_slice(alloc, self.entries.as_slice())?,
+            support: self.support.copy(alloc)?,
         })
     }
 
@@ -76,6 +82,13 @@ impl Vector {
         self.entries[i] as i128
     }
 
+    /// Lends the set of the positions with a positive entry.
+    pub fn support(&self) -> &PlaceSet
+        ensures { result.now ≡ support_of self.now }
+    {
+        &self.support
+    }
+
     /// The entries in order, each at most 2^127 - 1.
     pub fn as_slice(&self) -> &[u128]
         ensures value { result.now ≡ self.now }
@@ -91,7 +104,26 @@ impl Vector {
         ensures { self.new ≡ slice_set self.old i (positive_part value) }
     {
         self.entries[i] = value.unsigned_abs();
+        if value > 0 {
+            self.support.insert(i);
+        } else {
+            self.support.remove(i);
+        }
     }
+}
+
+/// The set of the positions with a positive entry.
+fn positive_positions(alloc: Global, entries: &[u128]) -> Result<PlaceSet, NoMemory>
+    requires { length entries.now ≤ MAX_ENTRIES }
+    ensures { IfOk result (λ support. support ≡ support_of entries.now) }
+{
+    let mut support = PlaceSet::new(alloc, entries.len())?;
+    for i in 0..entries.len() {
+        if entries[i] > 0 {
+            support.insert(i);
+        }
+    }
+    Ok(support)
 }
 
 impl PartialEq for Vector {

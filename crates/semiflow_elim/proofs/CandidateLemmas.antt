@@ -1,19 +1,12 @@
 -- One column more: zero rows and combinations of a positive and a negative row are semiflows over the
 -- columns with the new one, and so are their quotients by the greatest common divisor of their entries.
--- Where a pool has a row below each of them, it has one below each semiflow over those columns.
-use Rattle.std.proofs.Common.{◌≡◌, ◌⊎◌, sym, ap, ◌∙◌, subst, ℕ, zero, suc, ◌+◌, ◌*◌, ◌<◌, List, [], length, slice_index, All, AllPairs, inl, inr, arith}
+use Rattle.std.proofs.Common.{◌≡◌, ◌⊎◌, sym, ap, ◌∙◌, subst, ℕ, zero, suc, ◌+◌, ◌*◌, ◌<◌, List, inl, inr, arith}
 use Rattle.std.specs.Int.{◌∣◌}
-use Rattle.std.proofs.lemmas.Bool.{cases_lt}
-use Rattle.std.proofs.lemmas.List.{get_or_default}
 use Rattle.std.proofs.Math.Nat.{mul-dvd-mul_left, dvd_of_mul-dvd-mul_left, eq-one_of_dvd-one, eq_of_mul-eq-mul_left, mul-lt-mul_of_pos_left}
-use Rattle.support_prune.specs.Pools.{AreApart}
 use Rattle.incidence.specs.Matrix.{Matrix, gain_sum, loss_sum, positive_at, negative_at}
 use Rattle.incidence.specs.Semiflow.{IsWithin, IsNonzero, IsSemiflow, IsCoprime}
-use Rattle.semiflow_elim.specs.Bases.{IsBasis, HasBelow, IsGood}
-use Rattle.semiflow_elim.specs.Elimination.{row_of}
+use Rattle.semiflow_elim.specs.Bases.{HasBelow}
 use Rattle.semiflow_elim.proofs.Weighted.{weighted_join, weighted_scale}
-use Rattle.semiflow_elim.proofs.Transport.{rows_below}
-use Rattle.semiflow_elim.proofs.Rows.{IsRow, basis_flat}
 
 -- the columns K' are K with c
 pub record Extends (K : ℕ → Type 0) (c : ℕ) (K' : ℕ → Type 0) : Type 0 where
@@ -85,48 +78,3 @@ divided_coprime m p d h positive entries greatest e divides =
 
 pub below_trans : (m : Matrix) (pool : List (List ℕ)) (y z : ℕ → ℕ) → HasBelow m pool y → IsWithin m y z → HasBelow m pool z
 below_trans m pool y z has within = (has.0, has.1, has.2, has.3, λ i under some. within i under (has.4 i under some))
-
--- each candidate has a row of the pool below it
-pub record AllMet (m : Matrix) (c : ℕ) (rows pool : List (List ℕ)) : Type 0 where
-  pub zeros : (i : ℕ) → i < length rows → gain_sum m c (slice_index (row_of rows i)) ≡ loss_sum m c (slice_index (row_of rows i)) → HasBelow m pool (slice_index (row_of rows i))
-  pub pairs : (i k : ℕ) → i < length rows → k < length rows → loss_sum m c (slice_index (row_of rows i)) < gain_sum m c (slice_index (row_of rows i)) → gain_sum m c (slice_index (row_of rows k)) < loss_sum m c (slice_index (row_of rows k)) → HasBelow m pool (λ x. slice_index (row_of rows i) x + slice_index (row_of rows k) x)
-
-row_is : (rows : List (List ℕ)) (r : ℕ → ℕ) (row : IsRow rows r) → r ≡ slice_index (row_of rows row.at)
-row_is rows r row = row.same ∙ ap slice_index (get_or_default rows row.at row.default [] row.within)
-
-either_within : (a b y : ℕ) → (0 < a → 0 < y) → (0 < b → 0 < y) → 0 < a + b → 0 < y
-either_within a b y first second some =
-    elim (cases_lt 0 a) [
-      | inl left ↦ first left
-      | inr none ↦ second (omega arith)
-    ]
-
-pub step_basis : (m : Matrix) (K K' : ℕ → Type 0) (c : ℕ) (rows pool : List (List ℕ)) → c < m.columns → Extends K c K' → IsBasis m K rows → All (IsGood m K') pool → AllPairs AreApart pool → AllMet m c rows pool → IsBasis m K' pool
-step_basis m K K' c rows pool column more basis good apart met = record {
-  size = λ k d within. (good k d within).size;
-  semiflow = λ k d within. (good k d within).semiflow;
-  coprime = λ k d within. (good k d within).coprime;
-  apart = apart;
-  below = λ y flow.
-      let old : IsSemiflow m K y = record { nonzero = flow.nonzero; balanced = λ j p k. flow.balanced j p (more.old j k) } in
-      elim (rows_below m K (IsRow rows) (basis_flat m K rows basis).covers (λ i. positive_at m i c) (λ i. negative_at m i c) y old (flow.balanced c column more.new)) [
-        | inl zero_row ↦
-            let row = zero_row.1 in
-            let is = row_is rows zero_row.0 row in
-            below_trans m pool _ y
-            (met.zeros row.at row.within (subst (λ (r : ℕ → ℕ). gain_sum m c r ≡ loss_sum m c r) is zero_row.3))
-            (subst (λ (r : ℕ → ℕ). IsWithin m r y) is zero_row.2)
-        | inr signed ↦
-            let up = signed.0 in
-            let down = signed.1 in
-            let up_is = row_is rows up.0 up.1 in
-            let down_is = row_is rows down.0 down.1 in
-            below_trans m pool _ y
-            (met.pairs up.1.at down.1.at up.1.within down.1.within
-            (subst (λ (r : ℕ → ℕ). loss_sum m c r < gain_sum m c r) up_is up.3)
-            (subst (λ (r : ℕ → ℕ). gain_sum m c r < loss_sum m c r) down_is down.3))
-            (λ i under some. either_within _ _ (y i)
-            (subst (λ (r : ℕ → ℕ). IsWithin m r y) up_is up.2 i under)
-            (subst (λ (r : ℕ → ℕ). IsWithin m r y) down_is down.2 i under) some)
-      ];
-}

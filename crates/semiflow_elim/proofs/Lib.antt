@@ -13,3 +13,9 @@ pub mod Generation
 pub mod Offers
 pub mod ColumnOrder
 pub mod OneFailure
+pub mod Joins
+pub mod Adjacency
+pub mod AdjacentLists
+pub mod Unions
+pub mod Moves
+pub mod Keeps

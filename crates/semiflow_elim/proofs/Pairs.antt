@@ -1,23 +1,23 @@
--- Offering a pair's combination: divided by the greatest common divisor of its entries it is a coprime
--- semiflow over one column more, below the two rows together.
+-- A pair's combination: divided by the greatest common divisor of its entries it is a coprime semiflow over one
+-- column more, below the two rows together.
 use Rattle.std.proofs.Common.{◌≡◌, sym, ap, ◌∙◌, subst, ℕ, zero, suc, ◌+◌, ◌-◌, ◌*◌, ◌/◌, ◌^◌, ◌<◌, ◌≤◌, List, [], ◌++◌, length, get_or, slice_index, take, drop, inl, inr, arith}
 use Rattle.std.specs.Int.{◌∣◌, IsGcd}
 use Rattle.std.proofs.lemmas.Bool.{cases_lt}
 use Rattle.std.proofs.lemmas.List.{get_or_default}
-use Rattle.std.proofs.lemmas.List.Elements.{All-contains}
+use Rattle.std.proofs.lemmas.Nat.{mul-le}
 use Rattle.std.proofs.lemmas.Nat.Gcd.{same_from_IsGcd}
 use Rattle.std.proofs.Math.Seq.{take-append_seam}
 use Rattle.std.proofs.Math.Nat.{pos_of_dvd_of_pos, mul-div_cancel', div-le_self}
 use Rattle.net_values.specs.Vectors.{IsVector}
-use Rattle.support_prune.specs.Pools.{Offered}
-use Rattle.incidence.specs.Matrix.{Matrix, gain_sum, loss_sum}
+use Rattle.incidence.specs.Matrix.{Matrix}
 use Rattle.incidence.specs.Semiflow.{IsWithin, IsSemiflow, first_columns}
 use Rattle.semiflow_elim.specs.Arithmetic.{IsScaledSum, IsGcdOfAll}
-use Rattle.semiflow_elim.specs.Bases.{HasBelow, IsGood}
-use Rattle.semiflow_elim.specs.Candidates.{IsCombined, IsWideCombination, IsStep, AreGood, Grows, IsMet, sums_of}
+use Rattle.semiflow_elim.specs.Adjacent.{AreAdjacent, IsJoinedRow}
+use Rattle.semiflow_elim.specs.Bases.{IsGood}
+use Rattle.semiflow_elim.specs.Candidates.{IsCombined, IsNarrowCombination, IsWideCombination, IsStep, sums_of}
 use Rattle.semiflow_elim.specs.Elimination.{IsPair, IsWidePair, IsNarrowPair, row_of, surplus, deficit, combination}
 use Rattle.semiflow_elim.specs.declared.signs.RowSums.{RowSums}
-use Rattle.semiflow_elim.proofs.CandidateLemmas.{Extends, zero_semiflow, pair_semiflow, divided_semiflow, divided_coprime, zero_factor, product_positive}
+use Rattle.semiflow_elim.proofs.CandidateLemmas.{Extends, pair_semiflow, divided_semiflow, divided_coprime, zero_factor, product_positive}
 
 pub gcd_positive : (a b g : ℕ) → IsGcd a b g → 0 < a → 0 < g
 gcd_positive a b g gcd positive = pos_of_dvd_of_pos gcd.0 positive
@@ -63,24 +63,8 @@ combined_vector r s row a b h vector = record {
       omega arith;
 }
 
-pub taken : (after items : List ℕ) (len : ℕ) → len ≡ length after → take len (after ++ drop (length after) items) ≡ after
+pub taken : {X : Type 0} (after items : List X) (len : ℕ) → len ≡ length after → take len (after ++ drop (length after) items) ≡ after
 taken after items len is = ap (λ (n : ℕ). take n (after ++ drop (length after) items)) is ∙ take-append_seam after (drop (length after) items)
-
--- what an offer of a good row leaves
-pub offered_grows : (m : Matrix) (c : ℕ) (old new : List (List ℕ)) (row : List ℕ) → AreGood m c old → IsGood m (first_columns (c + 1)) row → Offered old new row → Grows m c old new × HasBelow m new (slice_index row)
-offered_grows m c old new row good fine offered = (
-  record {
-    good = λ k d within. elim (offered.drawn k d within) [
-      | inl here ↦ All-contains (IsGood m (first_columns (c + 1))) old (get_or new k d) good here
-      | inr same ↦ subst (IsGood m (first_columns (c + 1))) (sym same) fine
-    ];
-    kept = λ y has.
-        let below = offered.kept_below has.0 has.1 has.2 in
-        let old_is : get_or old has.0 has.1 ≡ has.1 = has.3 in
-        (below.0, below.1, below.2, below.3, λ i under some. has.4 i under (subst (λ (l : List ℕ). 0 < slice_index l i) old_is (below.4 i some)));
-  },
-  (offered.offer_below.0, offered.offer_below.1, offered.offer_below.2, offered.offer_below.3, λ i under some. offered.offer_below.4 i some),
-)
 
 pub first_extends : (c : ℕ) → Extends (first_columns c) c (first_columns (c + 1))
 first_extends c = record {
@@ -159,6 +143,16 @@ pair_is m c rows sums i k step first second up down = record {
   negative = let gain = step.gains k second in let loss = step.losses k second in omega arith;
 }
 
+pub pair_signs : (m : Matrix) (c : ℕ) (rows : List (List ℕ)) (sums : List RowSums) (i k : ℕ) → IsStep m c rows sums → i < length rows → k < length rows → IsPair m c (row_of rows i) (row_of rows k) → ((sums_of sums i).loss < (sums_of sums i).gain) × ((sums_of sums k).gain < (sums_of sums k).loss)
+pair_signs m c rows sums i k step first second pair =
+    let up = pair.positive in
+    let down = pair.negative in
+    let gain_i = step.gains i first in
+    let loss_i = step.losses i first in
+    let gain_k = step.gains k second in
+    let loss_k = step.losses k second in
+    (omega arith, omega arith)
+
 -- a read of a row
 pub read_row : (rows : List (List ℕ)) (i : ℕ) (x : List ℕ) → i < length rows → x ≡ get_or rows i x → x ≡ row_of rows i
 read_row rows i x within is = is ∙ get_or_default rows i x [] within
@@ -179,50 +173,51 @@ wide_pair m c r s size pair wide = record {
   wide = wide.wide.wide;
 }
 
-pub pair_wide : (m : Matrix) (c : ℕ) (rows : List (List ℕ)) (sums : List RowSums) (i k : ℕ) (r s : List ℕ) → IsStep m c rows sums → i < length rows → k < length rows → (sums_of sums i).loss < (sums_of sums i).gain → (sums_of sums k).gain < (sums_of sums k).loss → r ≡ row_of rows i → s ≡ row_of rows k → IsWideCombination r s ((sums_of sums i).gain - (sums_of sums i).loss) ((sums_of sums k).loss - (sums_of sums k).gain) → IsWidePair m c (row_of rows i) (row_of rows k)
-pair_wide m c rows sums i k r s step first second up down r_is s_is wide =
+-- what the code forms of two rows, said of the rows and their sums
+of_rows : (P : List ℕ → List ℕ → ℕ → ℕ → Type 0) (m : Matrix) (c : ℕ) (rows : List (List ℕ)) (sums : List RowSums) (i k : ℕ) (r s : List ℕ) → IsStep m c rows sums → i < length rows → k < length rows → r ≡ row_of rows i → s ≡ row_of rows k → P r s ((sums_of sums i).gain - (sums_of sums i).loss) ((sums_of sums k).loss - (sums_of sums k).gain) → P (row_of rows i) (row_of rows k) (surplus m c (row_of rows i)) (deficit m c (row_of rows k))
+of_rows P m c rows sums i k r s step first second r_is s_is holds =
     let differ = differences m c rows sums i k step first second in
     let A : ℕ = (sums_of sums i).gain - (sums_of sums i).loss in
     let B : ℕ = (sums_of sums k).loss - (sums_of sums k).gain in
-    let W : List ℕ → List ℕ → ℕ → ℕ → Type 0 = λ r s a b. IsWideCombination r s a b in
-    let by_rows = subst (λ (l : List ℕ). W (row_of rows i) l A B) s_is (subst (λ (l : List ℕ). W l s A B) r_is wide) in
-    let by_sums = subst (λ (b : ℕ). W (row_of rows i) (row_of rows k) (surplus m c (row_of rows i)) b) differ.1 (subst (λ (a : ℕ). W (row_of rows i) (row_of rows k) a B) differ.0 by_rows) in
-    wide_pair m c (row_of rows i) (row_of rows k) (step.basis.size i [] first) (pair_is m c rows sums i k step first second up down) by_sums
+    let by_rows = subst (λ (l : List ℕ). P (row_of rows i) l A B) s_is (subst (λ (l : List ℕ). P l s A B) r_is holds) in
+    subst (λ (b : ℕ). P (row_of rows i) (row_of rows k) (surplus m c (row_of rows i)) b) differ.1 (subst (λ (a : ℕ). P (row_of rows i) (row_of rows k) a B) differ.0 by_rows)
 
-pub pair_good : (m : Matrix) (c : ℕ) (rows : List (List ℕ)) (sums : List RowSums) (i k : ℕ) (r s row : List ℕ) → IsStep m c rows sums → i < length rows → k < length rows → (sums_of sums i).loss < (sums_of sums i).gain → (sums_of sums k).gain < (sums_of sums k).loss → r ≡ row_of rows i → s ≡ row_of rows k → IsCombined r s ((sums_of sums i).gain - (sums_of sums i).loss) ((sums_of sums k).loss - (sums_of sums k).gain) row → IsGood m (first_columns (c + 1)) row × IsWithin m (slice_index row) (λ x. slice_index (row_of rows i) x + slice_index (row_of rows k) x) × IsNarrowPair m c (row_of rows i) (row_of rows k)
-pair_good m c rows sums i k r s row step first second up down r_is s_is combined =
-    let differ = differences m c rows sums i k step first second in
-    let C : List ℕ → List ℕ → ℕ → ℕ → Type 0 = λ r s a b. IsCombined r s a b row in
-    let by_rows = subst (λ (l : List ℕ). C (row_of rows i) l ((sums_of sums i).gain - (sums_of sums i).loss) ((sums_of sums k).loss - (sums_of sums k).gain)) s_is (subst (λ (l : List ℕ). C l s ((sums_of sums i).gain - (sums_of sums i).loss) ((sums_of sums k).loss - (sums_of sums k).gain)) r_is combined) in
-    let by_sums = subst (λ (b : ℕ). C (row_of rows i) (row_of rows k) (surplus m c (row_of rows i)) b) differ.1 (subst (λ (a : ℕ). C (row_of rows i) (row_of rows k) a ((sums_of sums k).loss - (sums_of sums k).gain)) differ.0 by_rows) in
-    combined_good m c (row_of rows i) (row_of rows k) row (step.basis.size i [] first) (step.basis.semiflow i [] first) (step.basis.semiflow k [] second) (pair_is m c rows sums i k step first second up down) by_sums
+pub pair_wide : (m : Matrix) (c : ℕ) (rows : List (List ℕ)) (sums : List RowSums) (i k : ℕ) (r s : List ℕ) → IsStep m c rows sums → i < length rows → k < length rows → (sums_of sums i).loss < (sums_of sums i).gain → (sums_of sums k).gain < (sums_of sums k).loss → r ≡ row_of rows i → s ≡ row_of rows k → IsWideCombination r s ((sums_of sums i).gain - (sums_of sums i).loss) ((sums_of sums k).loss - (sums_of sums k).gain) → IsWidePair m c (row_of rows i) (row_of rows k)
+pair_wide m c rows sums i k r s step first second up down r_is s_is wide =
+    wide_pair m c (row_of rows i) (row_of rows k) (step.basis.size i [] first) (pair_is m c rows sums i k step first second up down)
+    (of_rows IsWideCombination m c rows sums i k r s step first second r_is s_is wide)
 
-pub pair_offered : (m : Matrix) (c : ℕ) (rows : List (List ℕ)) (sums : List RowSums) (i k : ℕ) (r s row : List ℕ) (old new : List (List ℕ)) → IsStep m c rows sums → i < length rows → k < length rows → (sums_of sums i).loss < (sums_of sums i).gain → (sums_of sums k).gain < (sums_of sums k).loss → r ≡ row_of rows i → s ≡ row_of rows k → IsCombined r s ((sums_of sums i).gain - (sums_of sums i).loss) ((sums_of sums k).loss - (sums_of sums k).gain) row → AreGood m c old → Offered old new row → Grows m c old new × IsMet m c new (row_of rows i) (row_of rows k)
-pair_offered m c rows sums i k r s row old new step first second up down r_is s_is combined good offered =
-    let fine = pair_good m c rows sums i k r s row step first second up down r_is s_is combined in
-    let both = offered_grows m c old new row good fine.0 offered in (
-      both.0,
-      record {
-        below = (both.1.0, both.1.1, both.1.2, both.1.3, λ x under some. fine.1 x under (both.1.4 x under some));
-        narrow = fine.2;
-      },
-    )
+pub pair_combined : (m : Matrix) (c : ℕ) (rows : List (List ℕ)) (sums : List RowSums) (i k : ℕ) (r s row : List ℕ) → IsStep m c rows sums → i < length rows → k < length rows → (sums_of sums i).loss < (sums_of sums i).gain → (sums_of sums k).gain < (sums_of sums k).loss → r ≡ row_of rows i → s ≡ row_of rows k → AreAdjacent m rows i k → IsCombined r s ((sums_of sums i).gain - (sums_of sums i).loss) ((sums_of sums k).loss - (sums_of sums k).gain) row → IsJoinedRow m c rows i k row
+pair_combined m c rows sums i k r s row step first second up down r_is s_is adjacent combined = record {
+  first = first;
+  second = second;
+  pair = pair_is m c rows sums i k step first second up down;
+  adjacent = adjacent;
+  combined = of_rows (λ r s a b. IsCombined r s a b row) m c rows sums i k r s step first second r_is s_is combined;
+}
 
--- offering a zero row
-pub zero_offered : (m : Matrix) (c : ℕ) (rows : List (List ℕ)) (sums : List RowSums) (i : ℕ) (row : List ℕ) (old new : List (List ℕ)) → IsStep m c rows sums → i < length rows → (sums_of sums i).gain ≡ (sums_of sums i).loss → row ≡ row_of rows i → AreGood m c old → Offered old new row → Grows m c old new × HasBelow m new (slice_index (row_of rows i))
-zero_offered m c rows sums i row old new step first same is good offered =
-    let gain = step.gains i first in
-    let loss = step.losses i first in
-    let fine : IsGood m (first_columns (c + 1)) (row_of rows i) = record {
-      size = step.basis.size i [] first;
-      semiflow = zero_semiflow m (first_columns c) (first_columns (c + 1)) c (slice_index (row_of rows i)) (first_extends c) (step.basis.semiflow i [] first) (omega arith);
-      coprime = step.basis.coprime i [] first;
-    } in
-    offered_grows m c old new (row_of rows i) good fine (subst (λ (l : List ℕ). Offered old new l) is offered)
+pub pair_narrow : (m : Matrix) (c : ℕ) (rows : List (List ℕ)) (sums : List RowSums) (i k : ℕ) (r s : List ℕ) → IsStep m c rows sums → i < length rows → k < length rows → r ≡ row_of rows i → s ≡ row_of rows k → IsNarrowCombination r s ((sums_of sums i).gain - (sums_of sums i).loss) ((sums_of sums k).loss - (sums_of sums k).gain) → IsNarrowPair m c (row_of rows i) (row_of rows k)
+pair_narrow m c rows sums i k r s step first second r_is s_is narrow =
+    let all = of_rows IsNarrowCombination m c rows sums i k r s step first second r_is s_is narrow in
+    let size = step.basis.size i [] first in
+    λ g gcd x under. all g gcd x (omega arith)
 
--- a row whose sums differ is no zero row
-pub not_zero : (m : Matrix) (c : ℕ) (rows : List (List ℕ)) (sums : List RowSums) (i : ℕ) → IsStep m c rows sums → i < length rows → ((sums_of sums i).gain ≡ (sums_of sums i).loss → ⊥) → gain_sum m c (slice_index (row_of rows i)) ≡ loss_sum m c (slice_index (row_of rows i)) → ⊥
-not_zero m c rows sums i step first differ zero_row =
-    let gain = step.gains i first in
-    let loss = step.losses i first in
-    differ (omega arith)
+-- a combination is narrow where the largest entries tell so, and where all its entries were formed
+pub largest_narrow : (r s : List ℕ) (a b x y : ℕ) → ((i : ℕ) → slice_index r i ≤ x) → ((i : ℕ) → slice_index s i ≤ y) → b * x + a * y < 2 ^ 127 → IsNarrowCombination r s a b
+largest_narrow r s a b x y first second small g gcd i under =
+    let left : (b / g) * slice_index r i ≤ b * x = mul-le (b / g) (slice_index r i) b x (div-le_self b g) (first i) in
+    let right : (a / g) * slice_index s i ≤ a * y = mul-le (a / g) (slice_index s i) a y (div-le_self a g) (second i) in
+    omega arith
+
+pub formed_narrow : (r s p : List ℕ) (a b g : ℕ) → IsGcd a b g → IsScaledSum (b / g) r (a / g) s (length r) p → IsNarrowCombination r s a b
+formed_narrow r s p a b g gcd sums h other i under =
+    let same : g ≡ h = same_from_IsGcd a b g h gcd other in
+    let entry = sums.entries i under in
+    let narrow = sums.narrow i under in
+    let here : (b / g) * slice_index r i + (a / g) * slice_index s i < 2 ^ 127 = omega arith in
+    subst (λ (z : ℕ). (b / z) * slice_index r i + (a / z) * slice_index s i < 2 ^ 127) same here
+
+-- the slices that the code reads are the rows
+pub read_narrow : (r r' s s' p : List ℕ) (a b g : ℕ) → r' ≡ r → s' ≡ s → IsGcd a b g → IsScaledSum (b / g) r' (a / g) s' (length r') p → IsNarrowCombination r s a b
+read_narrow r r' s s' p a b g r_is s_is gcd sums =
+    subst (λ (l : List ℕ). IsNarrowCombination r l a b) s_is (subst (λ (l : List ℕ). IsNarrowCombination l s' a b) r_is (formed_narrow r' s' p a b g gcd sums))

@@ -6,3 +6,6 @@ pub mod Laws
 pub mod Arithmetic
 pub mod Candidates
 pub mod Tableaus
+pub mod Adjacent
+pub mod Kept
+pub mod Added

@@ -1,18 +1,137 @@
-ghost use Rattle.std.specs.Prelude.{◌≡◌, [], ℕ, ◌+◌, ◌<◌, ◌≤◌, ◌-◌};
+ghost use Rattle.std.specs.Prelude.{◌≡◌, ℕ, ◌+◌, ◌-◌, ◌<◌, ◌≤◌};
 ghost use Rattle.std.specs.Prelude.{IfOk, OnOk, IfErr, length, slice_index};
-ghost use Rattle.incidence.specs.Matrix.{gain_sum, loss_sum};
 ghost use Rattle.incidence.specs.Tables.{matrix_of};
-ghost use Rattle.semiflow_elim.specs.Bases.{HasBelow};
-ghost use Rattle.semiflow_elim.specs.Candidates.{IsCombined, IsWideCombination, IsStep, AreGood};
-ghost use Rattle.semiflow_elim.specs.Candidates.{Grows, IsMet, PairsOffered, AllOffered, sums_of};
-ghost use Rattle.semiflow_elim.specs.Candidates.{zero_offers, pair_offers, row_offers, all_offers};
-ghost use Rattle.semiflow_elim.specs.Elimination.{IsPair, IsWidePair, row_of};
+ghost use Rattle.semiflow_elim.specs.Adjacent.{AreJoined};
+ghost use Rattle.semiflow_elim.specs.Candidates.{IsCombined, IsNarrowCombination, IsWideCombination, IsStep, sums_of};
+ghost use Rattle.semiflow_elim.specs.Candidates.{pair_offers, row_offers, all_offers};
+ghost use Rattle.semiflow_elim.specs.Elimination.{IsWidePair, row_of};
 
-use crate::row_arithmetic::{RowFault, divide_all, gcd, gcd_of_all, scaled_sum};
+use crate::adjacent::are_adjacent;
+use crate::row_arithmetic::{RowFault, divide_all, gcd, gcd_of_all, scaled_entry, scaled_sum};
+use crate::signs::RowSums;
 use crate::step::Step;
 use net_values::Vector;
 use std::alloc::Global;
-use support_prune::Pool;
+
+/// The combinations of all adjacent pairs. No pair may have a wide one, adjacent or not.
+pub(crate) fn join_all(alloc: Global, step: &Step<'_>) -> Result<Vec<Vector>, RowFault>
+    requires { let given = step.now in
+        IsStep (matrix_of given.matrix.now) given.column given.rows.now given.sums.now }
+    ensures joined { let given = step.now in IfOk result (λ joined.
+        AreJoined (matrix_of given.matrix.now) given.column given.rows.now joined.items (length given.rows.now) 0) }
+    ensures count { IfOk result (λ joined.
+        length joined.items ≤ all_offers step.now.sums.now (length step.now.rows.now)) }
+    ensures wide { let given = step.now in IfErr result (λ fault. fault ≡ RowFault.Wide →
+        (i : ℕ) × (k : ℕ) × (i < length given.rows.now) × (k < length given.rows.now) ×
+        IsWidePair (matrix_of given.matrix.now) given.column (row_of given.rows.now i) (row_of given.rows.now k)) }
+{
+    let mut joined = Vec::new(alloc);
+    for i in 0..step.rows.len() {
+        join_pairs(alloc, step, &mut joined, i)?;
+    }
+    Ok(joined)
+}
+
+/// Appends the combinations of row `i`, which is in adjacent pairs only where it is positive.
+fn join_pairs(
+    alloc: Global,
+    step: &Step<'_>,
+    joined: &mut Vec<Vector>,
+    i: usize,
+) -> Result<(), RowFault>
+    requires step { let given = step.now in
+        IsStep (matrix_of given.matrix.now) given.column given.rows.now given.sums.now }
+    requires joined { let given = step.now in
+        AreJoined (matrix_of given.matrix.now) given.column given.rows.now joined.old.items i 0 }
+    requires first { i < length step.now.rows.now }
+    ensures joined { let given = step.now in OnOk result
+        (AreJoined (matrix_of given.matrix.now) given.column given.rows.now joined.new.items (i + 1) 0) }
+    ensures count { let given = step.now in OnOk result
+        (length joined.new.items ≤ length joined.old.items + row_offers (sums_of given.sums.now i) given.sums.now (length given.rows.now)) }
+    ensures wide { let given = step.now in IfErr result (λ fault. fault ≡ RowFault.Wide →
+        (k : ℕ) × (k < length given.rows.now) ×
+        IsWidePair (matrix_of given.matrix.now) given.column (row_of given.rows.now i) (row_of given.rows.now k)) }
+{
+    if step.sums[i].gain <= step.sums[i].loss {
+        return Ok(());
+    }
+    for k in 0..step.rows.len() {
+        join_pair(alloc, step, joined, i, k)?;
+    }
+    Ok(())
+}
+
+/// Appends the combination of rows `i` and `k` where they are an adjacent pair. Of a pair that isn't adjacent
+/// only the width is looked at.
+fn join_pair(
+    alloc: Global,
+    step: &Step<'_>,
+    joined: &mut Vec<Vector>,
+    i: usize,
+    k: usize,
+) -> Result<(), RowFault>
+    requires step { let given = step.now in
+        IsStep (matrix_of given.matrix.now) given.column given.rows.now given.sums.now }
+    requires joined { let given = step.now in
+        AreJoined (matrix_of given.matrix.now) given.column given.rows.now joined.old.items i k }
+    requires first { i < length step.now.rows.now }
+    requires second { k < length step.now.rows.now }
+    ensures joined { let given = step.now in OnOk result
+        (AreJoined (matrix_of given.matrix.now) given.column given.rows.now joined.new.items i (k + 1)) }
+    ensures count { OnOk result
+        (length joined.new.items ≤ length joined.old.items + pair_offers (sums_of step.now.sums.now i) (sums_of step.now.sums.now k)) }
+    ensures wide { let given = step.now in IfErr result (λ fault. fault ≡ RowFault.Wide →
+        IsWidePair (matrix_of given.matrix.now) given.column (row_of given.rows.now i) (row_of given.rows.now k)) }
+{
+    let rows = step.rows;
+    let (first, second) = (step.sums[i], step.sums[k]);
+    if first.gain <= first.loss || second.loss <= second.gain {
+        return Ok(());
+    }
+    if !are_adjacent(step, i, k) {
+        refuse_wide(alloc, &rows[i], &rows[k], first, second)?;
+        return Ok(());
+    }
+    let row = combined(
+        alloc,
+        &rows[i],
+        &rows[k],
+        first.gain - first.loss,
+        second.loss - second.gain,
+    )?;
+    if joined.push(row).is_err() {
+        return Err(RowFault::NoMemory);
+    }
+    Ok(())
+}
+
+/// Refuses a positive and a negative row whose combination is wide. The largest entries of the two tell of
+/// nearly all that they are narrow.
+fn refuse_wide(
+    alloc: Global,
+    r: &Vector,
+    s: &Vector,
+    first: RowSums,
+    second: RowSums,
+) -> Result<(), RowFault>
+    requires alike { length r.now ≡ length s.now }
+    requires positive { first.loss < first.gain }
+    requires negative { second.gain < second.loss }
+    requires first_largest { (i : ℕ) → slice_index r.now i ≤ first.largest }
+    requires second_largest { (i : ℕ) → slice_index s.now i ≤ second.largest }
+    ensures narrow { OnOk result
+        (IsNarrowCombination r.now s.now (first.gain - first.loss) (second.loss - second.gain)) }
+    ensures wide { IfErr result (λ fault. fault ≡ RowFault.Wide →
+        IsWideCombination r.now s.now (first.gain - first.loss) (second.loss - second.gain)) }
+{
+    let (a, b) = (first.gain - first.loss, second.loss - second.gain);
+    if scaled_entry(b, first.largest, a, second.largest).is_ok() {
+        return Ok(());
+    }
+    let g = gcd(a, b);
+    let _entries = scaled_sum(alloc, b / g, r.as_slice(), a / g, s.as_slice())?;
+    Ok(())
+}
 
 /// The combination of two rows by their differences `a` and `b`, divided by the greatest common
 /// divisor of its entries.
@@ -29,118 +148,8 @@ fn combined(alloc: Global, r: &Vector, s: &Vector, a: u128, b: u128) -> Result<V
     let mut entries = scaled_sum(alloc, b / g, r.as_slice(), a / g, s.as_slice())?;
     let divisor = gcd_of_all(entries.as_slice());
     divide_all(entries.as_mut_slice(), divisor);
-    Ok(Vector::from_entries(entries))
-}
-
-/// Offers the combination of rows `i` and `k` where the first is positive and the second negative.
-fn offer_pair(
-    alloc: Global,
-    step: &Step<'_>,
-    pool: &mut Pool,
-    i: usize,
-    k: usize,
-) -> Result<(), RowFault>
-    requires step { let given = step.now in
-        IsStep (matrix_of given.matrix.now) given.column given.rows.now given.sums.now }
-    requires good { AreGood (matrix_of step.now.matrix.now) step.now.column pool.old }
-    requires first { i < length step.now.rows.now }
-    requires second { k < length step.now.rows.now }
-    ensures grows { OnOk result (Grows (matrix_of step.now.matrix.now) step.now.column pool.old pool.new) }
-    ensures met { let given = step.now in OnOk result
-        (IsPair (matrix_of given.matrix.now) given.column (row_of given.rows.now i) (row_of given.rows.now k) →
-        IsMet (matrix_of given.matrix.now) given.column pool.new (row_of given.rows.now i) (row_of given.rows.now k)) }
-    ensures count { OnOk result
-        (length pool.new ≤ length pool.old + pair_offers (sums_of step.now.sums.now i) (sums_of step.now.sums.now k)) }
-    ensures wide { let given = step.now in IfErr result (λ fault. fault ≡ RowFault.Wide →
-        IsWidePair (matrix_of given.matrix.now) given.column (row_of given.rows.now i) (row_of given.rows.now k)) }
-{
-    let rows = step.rows;
-    let (first, second) = (step.sums[i], step.sums[k]);
-    if first.gain <= first.loss || second.loss <= second.gain {
-        return Ok(());
-    }
-    let row = combined(
-        alloc,
-        &rows[i],
-        &rows[k],
-        first.gain - first.loss,
-        second.loss - second.gain,
-    )?;
-    if pool.offer(row).is_err() {
+    let Ok(row) = Vector::from_entries(alloc, entries) else {
         return Err(RowFault::NoMemory);
-    }
-    Ok(())
-}
-
-/// Offers the combinations of row `i` with all rows, which it has only where it is positive.
-fn offer_pairs(alloc: Global, step: &Step<'_>, pool: &mut Pool, i: usize) -> Result<(), RowFault>
-    requires step { let given = step.now in
-        IsStep (matrix_of given.matrix.now) given.column given.rows.now given.sums.now }
-    requires good { AreGood (matrix_of step.now.matrix.now) step.now.column pool.old }
-    requires first { i < length step.now.rows.now }
-    ensures ok { let given = step.now in OnOk result
-        (PairsOffered (matrix_of given.matrix.now) given.column given.rows.now pool.old pool.new i (length given.rows.now)) }
-    ensures count { let given = step.now in OnOk result
-        (length pool.new ≤ length pool.old + row_offers (sums_of given.sums.now i) given.sums.now (length given.rows.now)) }
-    ensures wide { let given = step.now in IfErr result (λ fault. fault ≡ RowFault.Wide →
-        (k : ℕ) × (k < length given.rows.now) ×
-        IsWidePair (matrix_of given.matrix.now) given.column (row_of given.rows.now i) (row_of given.rows.now k)) }
-{
-    if step.sums[i].gain <= step.sums[i].loss {
-        return Ok(());
-    }
-    for k in 0..step.rows.len() {
-        offer_pair(alloc, step, pool, i, k)?;
-    }
-    Ok(())
-}
-
-/// Offers row `i` where it is a zero row.
-fn offer_zero(alloc: Global, step: &Step<'_>, pool: &mut Pool, i: usize) -> Result<(), RowFault>
-    requires step { let given = step.now in
-        IsStep (matrix_of given.matrix.now) given.column given.rows.now given.sums.now }
-    requires good { AreGood (matrix_of step.now.matrix.now) step.now.column pool.old }
-    requires first { i < length step.now.rows.now }
-    ensures grows { OnOk result (Grows (matrix_of step.now.matrix.now) step.now.column pool.old pool.new) }
-    ensures met { let given = step.now in OnOk result
-        (gain_sum (matrix_of given.matrix.now) given.column (slice_index (row_of given.rows.now i)) ≡
-        loss_sum (matrix_of given.matrix.now) given.column (slice_index (row_of given.rows.now i)) →
-        HasBelow (matrix_of given.matrix.now) pool.new (slice_index (row_of given.rows.now i))) }
-    ensures count { OnOk result
-        (length pool.new ≤ length pool.old + zero_offers (sums_of step.now.sums.now i)) }
-    ensures narrow { IfErr result (λ fault. fault ≡ RowFault.Wide → ⊥) }
-{
-    let rows = step.rows;
-    let own = step.sums[i];
-    if own.gain != own.loss {
-        return Ok(());
-    }
-    match rows[i].copy(alloc) {
-        Ok(row) => {
-            if pool.offer(row).is_err() {
-                return Err(RowFault::NoMemory);
-            }
-        }
-        Err(_) => return Err(RowFault::NoMemory),
-    }
-    Ok(())
-}
-
-/// Offers all candidates to an empty pool.
-pub(crate) fn offer_all(alloc: Global, step: &Step<'_>) -> Result<Pool, RowFault>
-    requires { let given = step.now in
-        IsStep (matrix_of given.matrix.now) given.column given.rows.now given.sums.now }
-    ensures ok { let given = step.now in IfOk result (λ pool.
-        AllOffered (matrix_of given.matrix.now) given.column given.rows.now pool (length given.rows.now)) }
-    ensures count { IfOk result (λ pool. length pool ≤ all_offers step.now.sums.now (length step.now.rows.now)) }
-    ensures wide { let given = step.now in IfErr result (λ fault. fault ≡ RowFault.Wide →
-        (i : ℕ) × (k : ℕ) × (i < length given.rows.now) × (k < length given.rows.now) ×
-        IsWidePair (matrix_of given.matrix.now) given.column (row_of given.rows.now i) (row_of given.rows.now k)) }
-{
-    let mut pool = Pool::new(alloc);
-    for i in 0..step.rows.len() {
-        offer_zero(alloc, step, &mut pool, i)?;
-        offer_pairs(alloc, step, &mut pool, i)?;
-    }
-    Ok(pool)
+    };
+    Ok(row)
 }

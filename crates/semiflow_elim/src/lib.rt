@@ -3,9 +3,11 @@
 //! taken.
 #![tactic(auto)]
 
+mod adjacent;
 mod candidates;
 mod elimination;
 mod fault;
+mod kept;
 mod laws;
 mod row_arithmetic;
 mod signs;

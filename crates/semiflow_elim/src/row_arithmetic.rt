@@ -54,8 +54,21 @@ pub(crate) fn divide_all(entries: &mut [u128], divisor: u128)
     }
 }
 
+/// A number that no entry exceeds: the largest entry, or 0 where there is none.
+pub(crate) fn largest(entries: &[u128]) -> u128
+    ensures { (i : ℕ) → slice_index entries.now i ≤ result }
+{
+    let mut largest = 0;
+    for entry in entries {
+        if *entry > largest {
+            largest = *entry;
+        }
+    }
+    largest
+}
+
 /// Two multiples together.
-fn scaled_entry(x: u128, r: u128, y: u128, s: u128) -> Result<u128, WideSum>
+pub(crate) fn scaled_entry(x: u128, r: u128, y: u128, s: u128) -> Result<u128, WideSum>
     ensures { OkIff result (x * r + y * s < 2 ^ 127) (x * r + y * s) }
 {
     if r == 0 && s == 0 {

@@ -1,19 +1,22 @@
 ghost use Rattle.std.specs.Prelude.{◌≡◌, ℕ, ◌<◌, ◌^◌, ◌==◌, ◌⊎◌};
-ghost use Rattle.std.specs.Prelude.{IfOk, IfErr, All, length, nat_lt, count_by};
+ghost use Rattle.std.specs.Prelude.{IfOk, IfErr, OnErr, All, length, nat_lt, count_by, slice_index};
+ghost use Rattle.incidence.specs.Matrix.{AreNarrow};
 ghost use Rattle.incidence.specs.Tables.{matrix_of};
-ghost use Rattle.semiflow_elim.specs.Candidates.{AreSums, signs_total};
+ghost use Rattle.semiflow_elim.specs.Candidates.{AreSums, HasSums, signs_total};
 ghost use Rattle.semiflow_elim.specs.Elimination.{FailsBy};
 
 use crate::fault::ElimFault;
+use crate::row_arithmetic::largest;
 use incidence::{Incidence, WideSum};
 use net_values::Vector;
 use std::alloc::Global;
 
-/// The two sums of a row at a column.
+/// The two sums of a row at a column, and its largest entry where they differ.
 #[derive(Clone, Copy)]
 pub(crate) struct RowSums {
     pub gain: u128,
     pub loss: u128,
+    pub largest: u128,
 }
 
 /// The two sums of each row at a column.
@@ -32,20 +35,34 @@ pub(crate) fn row_sums(
 {
     let mut sums = Vec::new(alloc);
     for row in rows {
-        match matrix.sums(row, column) {
-            Ok((gain, loss)) => {
-                let own = RowSums {
-                    gain: gain.unsigned_abs(),
-                    loss: loss.unsigned_abs(),
-                };
-                if sums.push(own).is_err() {
-                    return Err(ElimFault::NoMemory);
-                }
-            }
-            Err(WideSum) => return Err(ElimFault::WideSum(column)),
+        let Ok(own) = sums_at(matrix, column, row) else {
+            return Err(ElimFault::WideSum(column));
+        };
+        if sums.push(own).is_err() {
+            return Err(ElimFault::NoMemory);
         }
     }
     Ok(sums)
+}
+
+/// The two sums of one row.
+fn sums_at(matrix: &Incidence, column: usize, row: &Vector) -> Result<RowSums, WideSum>
+    requires column { column < (matrix_of matrix.now).columns }
+    requires size { length row.now ≡ (matrix_of matrix.now).rows }
+    ensures ok { IfOk result (λ own. HasSums (matrix_of matrix.now) column row.now own) }
+    ensures wide { OnErr result (AreNarrow (matrix_of matrix.now) column (slice_index row.now) → ⊥) }
+{
+    let (gain, loss) = matrix.sums(row, column)?;
+    let largest = if gain == loss {
+        0
+    } else {
+        largest(row.as_slice())
+    };
+    Ok(RowSums {
+        gain: gain.unsigned_abs(),
+        loss: loss.unsigned_abs(),
+        largest,
+    })
 }
 
 /// The number of rows whose two sums are equal.

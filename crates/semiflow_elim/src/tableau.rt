@@ -1,13 +1,16 @@
 ghost use Rattle.std.specs.Prelude.{◌≡◌, ℕ, ◌+◌, ◌<◌, ◌≤◌, ◌^◌, ◌⊎◌, IfOk, OnOk, OnErr, IfErr, length};
 ghost use Rattle.incidence.specs.Semiflow.{first_columns};
 ghost use Rattle.incidence.specs.Tables.{matrix_of};
+ghost use Rattle.semiflow_elim.specs.Added.{IsAdded};
 ghost use Rattle.semiflow_elim.specs.Bases.{IsBasis, AreMinimal, AreUnits};
+ghost use Rattle.semiflow_elim.specs.Candidates.{signs_total};
 ghost use Rattle.semiflow_elim.specs.Elimination.{Passes, FailsBy};
 
-use crate::candidates::offer_all;
+use crate::candidates::join_all;
 use crate::fault::ElimFault;
+use crate::kept::keep_zeros;
 use crate::row_arithmetic::RowFault;
-use crate::signs::{candidate_total, row_sums};
+use crate::signs::{RowSums, candidate_total, row_sums};
 use crate::step::Step;
 use incidence::Incidence;
 use net_values::{MAX_ENTRIES, NoMemory, Rows, Vector};
@@ -20,7 +23,7 @@ pub struct Tableau<'m> {
     matrix: &'m Incidence,
     alloc: Global,
     done: usize,
-    rows: Rows,
+    rows: Vec<Vector>,
 }
 
 impl<'m> Model for Tableau<'m> {
@@ -28,12 +31,12 @@ impl<'m> Model for Tableau<'m> {
 
     ghost Value = { TableauValue };
 
-    ghost view = { λ t. record { tables = t.matrix.now; done = t.done; rows = t.rows } };
+    ghost view = { λ t. record { tables = t.matrix.now; done = t.done; rows = t.rows.items } };
 
     ghost invariant = { λ t. IsTableau record {
       tables = t.matrix.now;
       done = t.done;
-      rows = t.rows;
+      rows = t.rows.items;
     } };
 }
 
@@ -74,14 +77,7 @@ impl<'m> Tableau<'m> {
         ensures fails { IfErr result (λ fault. (fault ≡ ElimFault.NoMemory) ⊎
             FailsBy (matrix_of self.old.tables) rows self.old.done self.old.rows fault) }
     {
-        let next = next_rows(
-            self.alloc,
-            self.matrix,
-            self.done,
-            self.rows.as_slice(),
-            rows,
-        )?;
-        self.rows = next;
+        take_column(self.alloc, self.matrix, self.done, &mut self.rows, rows)?;
         self.done += 1;
         Ok(())
     }
@@ -93,24 +89,57 @@ impl<'m> Tableau<'m> {
         ensures minimal { AreMinimal (matrix_of self.entry.tables) (first_columns self.entry.done) self.entry.rows }
         ensures basis { IsBasis (matrix_of self.entry.tables) (first_columns self.entry.done) self.entry.rows }
     {
-        self.rows
+        Rows::from_members(self.rows)
     }
 }
 
-/// The rows over one column more.
-fn next_rows(
+/// Takes a column: the combinations of the adjacent pairs are added, and of the others the zero rows stay.
+fn take_column(
+    alloc: Global,
+    matrix: &Incidence,
+    column: usize,
+    rows: &mut Vec<Vector>,
+    budget: u32,
+) -> Result<(), ElimFault>
+    requires column { column < (matrix_of matrix.now).columns }
+    requires basis { IsBasis (matrix_of matrix.now) (first_columns column) rows.old.items }
+    requires few { length rows.old.items < 2 ^ 32 }
+    ensures basis { OnOk result (IsBasis (matrix_of matrix.now) (first_columns (column + 1)) rows.new.items) }
+    ensures few { OnOk result (length rows.new.items < 2 ^ 32) }
+    ensures passes { OnOk result (Passes (matrix_of matrix.now) budget column rows.old.items) }
+    ensures err { OnErr result (rows.new.items ≡ rows.old.items) }
+    ensures fails { IfErr result (λ fault. (fault ≡ ElimFault.NoMemory) ⊎
+        FailsBy (matrix_of matrix.now) budget column rows.old.items fault) }
+{
+    let added = added_rows(alloc, matrix, column, rows.as_slice(), budget)?;
+    let Added { sums, mut joined } = added;
+    if rows.append(&mut joined).is_err() {
+        return Err(ElimFault::NoMemory);
+    }
+    keep_zeros(rows, sums.as_slice());
+    Ok(())
+}
+
+/// What a step adds: the two sums of each row, and the combinations of the adjacent pairs.
+struct Added {
+    sums: Vec<RowSums>,
+    joined: Vec<Vector>,
+}
+
+/// What the step adds at a column.
+fn added_rows(
     alloc: Global,
     matrix: &Incidence,
     column: usize,
     rows: &[Vector],
     budget: u32,
-) -> Result<Rows, ElimFault>
+) -> Result<Added, ElimFault>
     requires column { column < (matrix_of matrix.now).columns }
     requires basis { IsBasis (matrix_of matrix.now) (first_columns column) rows.now }
     requires few { length rows.now < 2 ^ 32 }
-    ensures basis { IfOk result (λ next.
-        IsBasis (matrix_of matrix.now) (first_columns (column + 1)) next) }
-    ensures few { IfOk result (λ next. length next < 2 ^ 32) }
+    ensures added { IfOk result (λ added.
+        IsAdded (matrix_of matrix.now) column rows.now added.sums.items added.joined.items) }
+    ensures budget { IfOk result (λ added. signs_total added.sums.items ≤ budget) }
     ensures passes { OnOk result (Passes (matrix_of matrix.now) budget column rows.now) }
     ensures fails { IfErr result (λ fault. (fault ≡ ElimFault.NoMemory) ⊎
         FailsBy (matrix_of matrix.now) budget column rows.now fault) }
@@ -126,19 +155,19 @@ fn next_rows(
         rows,
         sums: sums.as_slice(),
     };
-    match offer_all(alloc, &step) {
-        Ok(pool) => Ok(pool.into_rows()),
+    match join_all(alloc, &step) {
+        Ok(joined) => Ok(Added { sums, joined }),
         Err(RowFault::Wide) => Err(ElimFault::WideRow(column)),
         Err(RowFault::NoMemory) => Err(ElimFault::NoMemory),
     }
 }
 
 /// The rows with a 1 at one position each and 0 elsewhere.
-fn unit_rows(alloc: Global, count: usize) -> Result<Rows, NoMemory>
+fn unit_rows(alloc: Global, count: usize) -> Result<Vec<Vector>, NoMemory>
     requires { count ≤ MAX_ENTRIES }
-    ensures { IfOk result (λ rows. AreUnits count rows count) }
+    ensures { IfOk result (λ rows. AreUnits count rows.items count) }
 {
-    let mut rows = Rows::new(alloc);
+    let mut rows = Vec::new(alloc);
     for i in 0..count {
         let mut row = Vector::zeros(alloc, count)?;
         row.set(i, 1);

@@ -33,4 +33,4 @@ returns-clause-ok c =
     let is = combined_is c.args.r.now c.as_slice.result.now c.args.s.now c.as_slice-2.result.now c.in_ok-entries.entries.items c.as_slice-3.result.now c.as_mut_slice.result.now c.divide_all.new.entries c.args.a c.args.b c.gcd-g.result c.gcd_of_all-divisor.result
     c.gcd-g.ensures c.as_slice.ensures.value c.as_slice-2.ensures.value c.in_ok-entries.ensures.ok c.as_slice-3.ensures.value c.gcd_of_all-divisor.ensures c.as_mut_slice.ensures.value (search rules) c.divide_all.ensures in
     subst (IsCombined c.args.r.now c.args.s.now c.args.a c.args.b)
-    (sym (c.from_entries.ensures ∙ taken c.divide_all.new.entries c.in_ok-entries.entries.items c.in_ok-entries.entries.len (search rules))) is
+    (sym (c.in-Ok.ensures ∙ taken c.divide_all.new.entries c.in_ok-entries.entries.items c.in_ok-entries.entries.len (search rules))) is

@@ -13,3 +13,6 @@ returns-clause-minimal c =
 pub returns-clause-basis : goal.returns-clause-basis
 returns-clause-basis c =
     subst (λ (t : TableauValue). IsBasis (matrix_of t.tables) (first_columns t.done) t.rows) c.self.view_is c.self.invariant.basis
+
+pub from_members-requires : goal.from_members-requires
+from_members-requires c = record { common = _; alike = c.self.invariant.basis.size }

@@ -1,11 +1,9 @@
-use Rattle.std.proofs.Common.{refl, sym, ap, ◌∙◌, subst, ◌+◌, inr, arith}
+use Rattle.std.proofs.Common.{refl, ap, ◌∙◌, inl, inr, arith}
 use Rattle.std.proofs.lemmas.Result.{err_from_is_err_and}
-use Rattle.incidence.specs.Semiflow.{first_columns}
 use Rattle.incidence.specs.Tables.{matrix_of}
-use Rattle.semiflow_elim.specs.Bases.{IsBasis}
 use Rattle.semiflow_elim.specs.Candidates.{signs_total}
-use Rattle.semiflow_elim.proofs.Steps.{total_is, all_narrow, pool_basis}
-use Rattle.semiflow_elim.proofs.tableau.next_rows.Goals as goal
+use Rattle.semiflow_elim.proofs.Steps.{total_is, all_narrow}
+use Rattle.semiflow_elim.proofs.tableau.added_rows.Goals as goal
 
 pub returns-in_err-sums-clause-fails : goal.returns-in_err-sums-clause-fails
 returns-in_err-sums-clause-fails c =
@@ -22,12 +20,6 @@ returns-then-count-from-clause-fails c =
       omega arith,
     )
 
-pub returns-in-Ok-clause-basis : goal.returns-in-Ok-clause-basis
-returns-in-Ok-clause-basis c =
-    let m = matrix_of c.args.matrix.now in
-    subst (IsBasis m (first_columns (c.args.column + 1))) (sym c.into_rows.ensures.rows)
-    (pool_basis m c.args.column c.args.rows.now _ c.requires.column c.requires.basis c.into_rows.ensures.pool c.in-Ok.ensures.ok)
-
 pub returns-in-Ok-clause-passes : goal.returns-in-Ok-clause-passes
 returns-in-Ok-clause-passes c =
     let m = matrix_of c.args.matrix.now in
@@ -35,7 +27,7 @@ returns-in-Ok-clause-passes c =
     record {
       sums = all_narrow m c.args.column c.args.rows.now c.in_ok-sums.sums.items c.in_ok-sums.ensures.ok;
       budget_met = omega (arith, count);
-      pairs = λ i k first second pair. (c.in-Ok.ensures.ok.pairs i k first second pair).narrow;
+      pairs = λ i k first second pair. c.in-Ok.ensures.joined.narrow i k (inl first) second pair;
     }
 
 pub returns-in-Err-Wide-clause-fails : goal.returns-in-Err-Wide-clause-fails

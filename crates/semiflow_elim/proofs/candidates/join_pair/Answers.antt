@@ -1,0 +1,66 @@
+use Rattle.std.proofs.Common.{◌≡◌, ◌++◌, ◌∷◌, ◌+◌, ◌∙◌, ℕ, List, [], sym, subst, rules, arith}
+use Rattle.std.proofs.lemmas.Bool.{false≢true}
+use Rattle.std.proofs.lemmas.Result.{err_from_is_err_and}
+use Rattle.incidence.specs.Tables.{matrix_of}
+use Rattle.semiflow_elim.specs.Adjacent.{AreJoined}
+use Rattle.semiflow_elim.specs.Elimination.{IsPair, row_of}
+use Rattle.semiflow_elim.proofs.AdjacentLists.{joined_skip, joined_more}
+use Rattle.semiflow_elim.proofs.Pairs.{read_row, row_nonzero, pair_signs, pair_wide, pair_narrow, pair_combined}
+use Rattle.semiflow_elim.proofs.candidates.join_pair.Goals.{then-first-via-then-first, then-first-via-else-first+then-second}
+use Rattle.semiflow_elim.proofs.candidates.join_pair.Goals as goal
+
+pub returns-then-first-clause-joined : goal.returns-then-first-clause-joined
+returns-then-first-clause-joined c =
+    let no : IsPair (matrix_of c.args.step.now.matrix.now) c.args.step.now.column (row_of c.args.step.now.rows.now c.args.i) (row_of c.args.step.now.rows.now c.args.k) → ⊥ =
+    λ pair.
+    let signs = pair_signs (matrix_of c.args.step.now.matrix.now) c.args.step.now.column c.args.step.now.rows.now c.args.step.now.sums.now c.args.i c.args.k c.requires.step c.requires.first c.requires.second pair in
+    let up = signs.0 in
+    let down = signs.1 in
+    elim c.then-first.branch [
+      | then-first-via-then-first w ↦ let sign = w.if-first.true in omega arith
+      | then-first-via-else-first+then-second w ↦ let sign = w.if-second.true in omega arith
+    ]
+    in
+    joined_skip (matrix_of c.args.step.now.matrix.now) c.args.step.now.column c.args.step.now.rows.now c.args.joined.now.items c.args.i c.args.k (λ pair adjacent. no pair) (λ pair. absurd (no pair)) c.requires.joined
+
+pub returns-in_err-refuse_wide-clause-wide : goal.returns-in_err-refuse_wide-clause-wide
+returns-in_err-refuse_wide-clause-wide c =
+    let p = err_from_is_err_and c.from_residual.result c.from_residual.ensures.1 in
+    rw (p.1) (λ is. pair_wide (matrix_of c.args.step.now.matrix.now) c.args.step.now.column c.args.step.now.rows.now c.args.step.now.sums.now c.args.i c.args.k c.index-rows-i.result c.index-rows-k.result c.requires.step c.requires.first c.requires.second (omega arith) (omega arith)
+    (read_row c.args.step.now.rows.now c.args.i c.index-rows-i.result c.requires.first c.index-rows-i.is)
+    (read_row c.args.step.now.rows.now c.args.k c.index-rows-k.result c.requires.second c.index-rows-k.is)
+    (c.in_err-refuse_wide.ensures.wide (search (rules, p.1, p.2, is))))
+
+pub returns-then-not-are_adjacent-clause-joined : goal.returns-then-not-are_adjacent-clause-joined
+returns-then-not-are_adjacent-clause-joined c =
+    joined_skip (matrix_of c.args.step.now.matrix.now) c.args.step.now.column c.args.step.now.rows.now c.args.joined.now.items c.args.i c.args.k
+    (λ pair adjacent. absurd (false≢true (sym c.if-not-are_adjacent.true ∙ c.are_adjacent.ensures.1 adjacent)))
+    (λ pair. pair_narrow (matrix_of c.args.step.now.matrix.now) c.args.step.now.column c.args.step.now.rows.now c.args.step.now.sums.now c.args.i c.args.k c.index-rows-i.result c.index-rows-k.result c.requires.step c.requires.first c.requires.second
+    (read_row c.args.step.now.rows.now c.args.i c.index-rows-i.result c.requires.first c.index-rows-i.is)
+    (read_row c.args.step.now.rows.now c.args.k c.index-rows-k.result c.requires.second c.index-rows-k.is)
+    c.in_ok-refuse_wide.ensures.narrow)
+    c.requires.joined
+
+pub combined-requires-clause-nonzero : goal.combined-requires-clause-nonzero
+combined-requires-clause-nonzero c =
+    row_nonzero (matrix_of c.args.step.now.matrix.now) c.args.step.now.column c.args.step.now.rows.now c.args.step.now.sums.now c.args.i c.index-rows-i-2.result c.requires.step c.requires.first
+    (read_row c.args.step.now.rows.now c.args.i c.index-rows-i-2.result c.requires.first c.index-rows-i-2.is)
+
+pub returns-in_err-row-clause-wide : goal.returns-in_err-row-clause-wide
+returns-in_err-row-clause-wide c =
+    let p = err_from_is_err_and c.from_residual-in_err-row.result c.from_residual-in_err-row.ensures.1 in
+    rw (p.1) (λ is. pair_wide (matrix_of c.args.step.now.matrix.now) c.args.step.now.column c.args.step.now.rows.now c.args.step.now.sums.now c.args.i c.args.k c.index-rows-i-2.result c.index-rows-k-2.result c.requires.step c.requires.first c.requires.second (omega arith) (omega arith)
+    (read_row c.args.step.now.rows.now c.args.i c.index-rows-i-2.result c.requires.first c.index-rows-i-2.is)
+    (read_row c.args.step.now.rows.now c.args.k c.index-rows-k-2.result c.requires.second c.index-rows-k-2.is)
+    (c.in_err-row.ensures.wide (search (rules, p.1, p.2, is))))
+
+pub returns-clause-joined : goal.returns-clause-joined
+returns-clause-joined c =
+    let pushed : c.push.new.self.items ≡ c.args.joined.now.items ++ c.in_ok-row.row ∷ [] = search rules in
+    subst (λ (l : List (List ℕ)). AreJoined (matrix_of c.args.step.now.matrix.now) c.args.step.now.column c.args.step.now.rows.now l c.args.i (c.args.k + 1)) (sym pushed)
+    (joined_more (matrix_of c.args.step.now.matrix.now) c.args.step.now.column c.args.step.now.rows.now c.requires.step.basis c.args.joined.now.items c.args.i c.args.k c.in_ok-row.row
+    (pair_combined (matrix_of c.args.step.now.matrix.now) c.args.step.now.column c.args.step.now.rows.now c.args.step.now.sums.now c.args.i c.args.k c.index-rows-i-2.result c.index-rows-k-2.result c.in_ok-row.row c.requires.step c.requires.first c.requires.second (omega arith) (omega arith)
+    (read_row c.args.step.now.rows.now c.args.i c.index-rows-i-2.result c.requires.first c.index-rows-i-2.is)
+    (read_row c.args.step.now.rows.now c.args.k c.index-rows-k-2.result c.requires.second c.index-rows-k-2.is)
+    (c.are_adjacent.ensures.0 c.if-not-are_adjacent.false) c.in_ok-row.ensures.ok)
+    c.requires.joined)
