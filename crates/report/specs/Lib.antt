@@ -2,5 +2,6 @@
 pub mod Lines
 pub mod Texts
 pub mod VerdictTexts
+pub mod SummaryText
 pub mod FaultLines
 pub mod Refusals
