@@ -23,7 +23,7 @@ use Rattle.report.specs.Texts.{bounds_text}
 use Rattle.report.specs.VerdictTexts.{IsCommonerText, IsVerdictOn}
 use Rattle.struct_core.specs.Answers.{FailsWith}
 use Rattle.struct_core.specs.Enumerations.{AreListed, FailedStep, PassedLimit}
-use Rattle.struct_core.specs.Verdicts.{BoundOutcome, all_bounds, wide_bound, no_semiflows, CommonerOutcome, verdict, no_siphons, LiveOutcome, liveness, too_many_siphons}
+use Rattle.struct_core.specs.Verdicts.{FirstWide, first_wide, BoundOutcome, all_bounds, wide_bound, no_semiflows, CommonerOutcome, verdict, no_siphons, LiveOutcome, liveness, too_many_siphons}
 use Rattle.siphon_branch.specs.declared.fault.SetFault.{SetFault}
 use Rattle.siphon_branch.specs.declared.fault.SetFault.TheVariants as limits
 use Rattle.free_choice_live.specs.declared.liveness.Liveness.{Liveness}
@@ -40,11 +40,20 @@ pub bounds_told : (net : Net) (ids columns : ℕ → List ℕ) (budget : ℕ) (l
 bounds_told net ids columns budget list bounds text listed narrow size least same =
     subst (λ (t : List ℕ). BoundOutcome net ids columns budget 0 t) (sym same) (all_bounds list bounds listed narrow size least)
 
-pub wide_told : (net : Net) (ids columns : ℕ → List ℕ) (budget : ℕ) (list : List (List ℕ)) (row : ℕ) (fault : BoundFault) → fault ≡ faults.WideBound row
-    → AreListed (incidence_of net) budget list → ((k : ℕ) → fault ≡ faults.WideBound k → IsFirstWideRow net list k)
-    → FailsWith (BoundOutcome net ids columns budget) (Excess (WideBound row))
-wide_told net ids columns budget list row fault is listed wide =
-    inr record { low = omega arith; high = omega arith; outcome = wide_bound list row listed (wide row is) }
+pub wide_told : (net : Net) (list : List (List ℕ)) (row : ℕ) (fault : BoundFault) → fault ≡ faults.WideBound row
+    → ((k : ℕ) → fault ≡ faults.WideBound k → IsFirstWideRow net list k) → FailsWith (FirstWide net list) (Excess (WideBound row))
+wide_told net list row fault is wide = inr record { low = omega arith; high = omega arith; outcome = first_wide row (wide row is) }
+
+pub wide_outcome : (net : Net) (ids columns : ℕ → List ℕ) (budget : ℕ) (list : List (List ℕ)) (status : ℕ) (line : List ℕ) → AreListed (incidence_of net) budget list
+    → FirstWide net list status line → BoundOutcome net ids columns budget status line
+wide_outcome net ids columns budget list _ _ listed (first_wide row is) = wide_bound list row listed is
+
+pub wide_refused : {T : Type 0} (net : Net) (ids columns : ℕ → List ℕ) (budget : ℕ) (list : List (List ℕ)) (result : Result T Refusal) (refusal : Refusal)
+    → IsErrAnd result (λ x. x ≡ refusal) → AreListed (incidence_of net) budget list → FailsWith (FirstWide net list) refusal
+    → IfErr result (FailsWith (BoundOutcome net ids columns budget))
+wide_refused net ids columns budget list result refusal same listed fails =
+    err_goes (FailsWith (BoundOutcome net ids columns budget)) result refusal same
+    (fails_so _ _ refusal (λ status line is. wide_outcome net ids columns budget list status line listed is) fails)
 
 bounds_fail : (net : Net) (ids columns : ℕ → List ℕ) (budget : ℕ) (refusal : Refusal) → FailsWith (FailedStep (incidence_of net) columns budget) refusal
     → FailsWith (BoundOutcome net ids columns budget) refusal

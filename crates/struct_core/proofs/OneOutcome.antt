@@ -14,16 +14,21 @@ use Rattle.page_flatten.specs.declared.fault.FlatFault.{FlatFault}
 use Rattle.page_flatten.specs.Rules.{BreaksNoRule, FirstBroken}
 use Rattle.page_flatten.proofs.OneAnswer.{breaks_where_faulty, one_fault}
 use Rattle.report.specs.Texts.{class_text}
+use Rattle.report.specs.declared.summary.Summary.{Summary}
+use Rattle.report.specs.SummaryText.{summary_text}
 use Rattle.struct_core.specs.declared.order.Task.{Task}
 use Rattle.struct_core.specs.declared.order.Task.TheVariants as tasks
 use Rattle.struct_core.specs.declared.order.Budgets.{Budgets}
-use Rattle.struct_core.specs.declared.order.Order.{Order}
-use Rattle.struct_core.specs.declared.order.Order.TheVariants.{Run}
+use Rattle.struct_core.specs.declared.order.Order.TheVariants.{Run, Sample}
 use Rattle.report.specs.FaultLines.{document_line, rule_line}
-use Rattle.struct_core.specs.Outcome.{HasClass, TaskOutcome, Outcome, no_document, broken, answer}
+use Rattle.struct_core.specs.Outcome.{HasClass, TaskOutcome, Outcome, no_document, broken, answer, sample, sample_tasks, SampleOutcome, refused, goes_on, summary}
+use Rattle.page_flatten.specs.Flat.{Flat}
+use Rattle.struct_core.specs.Words.{default_budgets, IsInRange}
+use Rattle.struct_core.specs.Sample.{sample_document}
+use Rattle.struct_core.proofs.OneSummary.{one_summary}
 use Rattle.struct_core.specs.Determined.{HasOneOutcome}
 use Rattle.struct_core.proofs.Truths.{same_answer}
-use Rattle.struct_core.proofs.TaskAnswers.{task_answers}
+use Rattle.struct_core.proofs.TaskAnswers.{task_answers, sample_answers}
 use Rattle.struct_core.proofs.OneListing.{one_semiflow_outcome, one_set_outcome}
 use Rattle.struct_core.proofs.OneVerdict.{one_bound_outcome, one_commoner_outcome}
 use Rattle.struct_core.proofs.OneLiveness.{one_live_outcome}
@@ -48,7 +53,7 @@ one_class net one other is also =
 
 -- ---- a task
 
-one_task_outcome : (task : Task) (budgets : Budgets) (document : Document) (net : NetLists) (status other : ℕ) (text line : List ℕ)
+pub one_task_outcome : (task : Task) (budgets : Budgets) (document : Document) (net : NetLists) (status other : ℕ) (text line : List ℕ)
     → TaskOutcome task budgets document net status text → TaskOutcome task budgets document net other line → (status ≡ other) × (text ≡ line)
 one_task_outcome tasks.Check budgets document net status other text line one another = (one.0 ∙ sym another.0, one.1 ∙ sym another.1)
 one_task_outcome tasks.Canon budgets document net status other text line one another = (one.0 ∙ sym another.0, one.1 ∙ sym another.1)
@@ -66,31 +71,53 @@ one_task_outcome tasks.Bounds budgets document net status other text line one an
 one_task_outcome tasks.Commoner budgets document net status other text line one another = one_commoner_outcome _ _ _ status other text line one another
 one_task_outcome tasks.Live budgets document net status other text line one another = one_live_outcome _ _ _ status other text line one another
 
+-- ---- a sample
+
+one_sample : (document : Document) (net : NetLists) (later : List Task) (status other : ℕ) (text line : List ℕ) → SampleOutcome document net later status text
+    → SampleOutcome document net later other line → (status ≡ other) × (text ≡ line)
+one_sample document net _ _ _ _ _ (refused task later status line fails outcome) (refused _ _ other text fail another) =
+    one_task_outcome task default_budgets document net status other line text outcome another
+one_sample document net _ _ _ _ _ (refused task later status line fails outcome) (goes_on _ _ report other text another rest) =
+    absurd (fails (one_task_outcome task default_budgets document net status 0 line report outcome another).0)
+one_sample document net _ _ _ _ _ (goes_on task later report status text outcome rest) (refused _ _ other line fails another) =
+    absurd (fails (one_task_outcome task default_budgets document net other 0 line report another outcome).0)
+one_sample document net _ _ _ _ _ (goes_on task later report status text outcome rest) (goes_on _ _ another other line also more) =
+    one_sample document net later status other text line rest more
+one_sample document net _ _ _ _ _ (summary numbers is) (summary others also) =
+    (refl, ap (λ (n : Summary). summary_text n) (one_summary (net_of net) net.arcs numbers others is also))
+
 -- ---- an order
 
-no_other : (order : Order) (bytes : List ℕ) (fault : Fault) (status : ℕ) (text : List ℕ) → FirstFault bytes fault → Outcome order bytes status text
+no_other : (task : Task) (budgets : Budgets) (bytes : List ℕ) (fault : Fault) (status : ℕ) (text : List ℕ) → FirstFault bytes fault → Outcome (Run task budgets) bytes status text
     → (status ≡ 3) × (text ≡ document_line fault)
-no_other _ _ fault _ _ is (no_document task budgets bytes other first) =
+no_other _ _ _ fault _ _ is (no_document task budgets bytes other first) =
     (refl, sym (ap document_line ((one_answer bytes fault is).0 other first)))
-no_other _ _ fault _ _ is (broken task budgets bytes document other spelled first) = absurd ((one_answer bytes fault is).1 document spelled)
-no_other _ _ fault _ _ is (answer task budgets bytes document net status text profile flat outcome) =
+no_other _ _ _ fault _ _ is (broken task budgets bytes document other spelled first) = absurd ((one_answer bytes fault is).1 document spelled)
+no_other _ _ _ fault _ _ is (answer task budgets bytes document net status text profile flat outcome) =
     absurd ((one_answer bytes fault is).1 document profile.spelled)
 
-broken_only : (order : Order) (bytes : List ℕ) (document : Document) (fault : FlatFault) (status : ℕ) (text : List ℕ) → DocBytes document bytes
-    → FirstBroken document fault → Outcome order bytes status text → (status ≡ 3) × (text ≡ rule_line fault)
-broken_only _ _ document fault _ _ spelled is (no_document task budgets bytes other first) = absurd ((one_answer bytes other first).1 document spelled)
-broken_only _ _ document fault _ _ spelled is (broken task budgets bytes another other also first) =
+broken_only : (task : Task) (budgets : Budgets) (bytes : List ℕ) (document : Document) (fault : FlatFault) (status : ℕ) (text : List ℕ) → DocBytes document bytes
+    → FirstBroken document fault → Outcome (Run task budgets) bytes status text → (status ≡ 3) × (text ≡ rule_line fault)
+broken_only _ _ _ document fault _ _ spelled is (no_document task budgets bytes other first) = absurd ((one_answer bytes other first).1 document spelled)
+broken_only _ _ _ document fault _ _ spelled is (broken task budgets bytes another other also first) =
     (refl, ap rule_line (one_fault document other fault (subst (λ d. FirstBroken d other) (spells_one bytes another document also spelled) first) is))
-broken_only _ _ document fault _ _ spelled is (answer task budgets bytes another net status text profile flat outcome) =
+broken_only _ _ _ document fault _ _ spelled is (answer task budgets bytes another net status text profile flat outcome) =
     absurd (breaks_where_faulty document fault is (subst BreaksNoRule (spells_one bytes another document profile.spelled spelled) profile.rules))
+
+one_sample_outcome : (n : ℕ) (bytes : List ℕ) (net : NetLists) (status other : ℕ) (text line : List ℕ) → IsInRange (Sample n) → Flat (sample_document n) net
+    → SampleOutcome (sample_document n) net sample_tasks status text → Outcome (Sample n) bytes other line → (status ≡ other) × (text ≡ line)
+one_sample_outcome n bytes net status other text line range flat outcome another =
+    one_sample (sample_document n) net sample_tasks status other text line outcome (sample_answers n bytes net other line range flat another)
 
 pub one_outcome : HasOneOutcome
 one_outcome _ _ _ other _ line (no_document task budgets bytes fault first) another =
-    let same : (other ≡ 3) × (line ≡ document_line fault) = no_other (Run task budgets) bytes fault other line first another in
+    let same : (other ≡ 3) × (line ≡ document_line fault) = no_other task budgets bytes fault other line first another in
     (sym same.0, sym same.1)
 one_outcome _ _ _ other _ line (broken task budgets bytes document fault spelled first) another =
-    let same : (other ≡ 3) × (line ≡ rule_line fault) = broken_only (Run task budgets) bytes document fault other line spelled first another in
+    let same : (other ≡ 3) × (line ≡ rule_line fault) = broken_only task budgets bytes document fault other line spelled first another in
     (sym same.0, sym same.1)
 one_outcome _ _ _ other _ line (answer task budgets bytes document net status text profile flat outcome) another =
     one_task_outcome task budgets document net status other text line outcome
     (task_answers task budgets bytes document net other line profile flat another)
+one_outcome _ _ _ other _ line (sample n bytes net status text range flat outcome) another =
+    one_sample_outcome n bytes net status other text line range flat outcome another

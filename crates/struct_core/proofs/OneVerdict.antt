@@ -27,7 +27,7 @@ use Rattle.struct_core.proofs.Truths.{same_answer}
 
 -- ---- bounds
 
-one_bound : (net : Net) (p : ℕ) (one other : Option ℕ) → IsLeastBound net p one → IsLeastBound net p other → one ≡ other
+pub one_bound : (net : Net) (p : ℕ) (one other : Option ℕ) → IsLeastBound net p one → IsLeastBound net p other → one ≡ other
 one_bound net p None None is also = refl
 one_bound net p None (Some b) is also = absurd (is also.attained.0 also.attained.1 also.attained.2)
 one_bound net p (Some a) None is also = absurd (also is.attained.0 is.attained.1 is.attained.2)
@@ -126,7 +126,7 @@ one_unsafe net list one other is also = elim (cases_lt is.index also.index) [
   ]
 ]
 
-one_verdict : (net : Net) (one other : Verdict) → IsVerdict net one → IsVerdict net other → one ≡ other
+pub one_verdict : (net : Net) (one other : Verdict) → IsVerdict net one → IsVerdict net other → one ≡ other
 one_verdict net Yes Yes is also = refl
 one_verdict net Yes (No siphon) is also = sym (also.exact.1 (is.exact.0 refl))
 one_verdict net (No siphon) Yes is also = is.exact.1 (also.exact.0 refl)

@@ -22,6 +22,10 @@ use Rattle.report.specs.Texts.{bounds_text}
 use Rattle.report.specs.VerdictTexts.{IsCommonerText}
 use Rattle.struct_core.specs.Enumerations.{AreListed, FailedStep, PassedLimit}
 
+-- the first listed semiflow that is wide
+pub data FirstWide (net : Net) (list : List (List ℕ)) : ℕ → List ℕ → Type 0 where
+  first_wide : (row : ℕ) → IsFirstWideRow net list row → FirstWide net list 4 (wide_bound_line row)
+
 -- for the bounds of the places, by the list of their minimal semiflows
 pub data BoundOutcome (net : Net) (ids columns : ℕ → List ℕ) (budget : ℕ) : ℕ → List ℕ → Type 0 where
   -- no listed semiflow is wide: the least bound of each place over all semiflows
