@@ -119,13 +119,13 @@ is_shallow : (n : ℕ) → IsShallow 2 (sample_items n)
 is_shallow n = (
   omega arith,
   after_page n (IsShallow 3) tt
-  (λ i rest is. (
-    (omega arith, is),
-    (omega arith, is),
-    (omega arith, is),
-    (omega arith, (omega arith, is)),
-    (omega arith, (omega arith, (omega arith, (omega arith, (omega arith, (omega arith, (omega arith, (omega arith, is)))))))),
-  )),
+      (λ i rest is. (
+        (omega arith, is),
+        (omega arith, is),
+        (omega arith, is),
+        (omega arith, (omega arith, is)),
+        (omega arith, (omega arith, (omega arith, (omega arith, (omega arith, (omega arith, (omega arith, (omega arith, is)))))))),
+      )),
 )
 
 -- ---- the counts
