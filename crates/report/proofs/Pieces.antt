@@ -1,5 +1,5 @@
 -- A line grows by a piece with a space in front of it, or, where it is the first, without one.
-use Rattle.std.proofs.Common.{◌≡◌, refl, sym, ap, ◌∙◌, subst, ℕ, ◌+◌, List, [], ◌∷◌, ◌++◌, Bool, true, false, ◌&&◌, cond, map, append_assoc, append-nil, arith}
+use Rattle.std.proofs.Common.{◌≡◌, refl, sym, ap, ◌∙◌, subst, ℕ, ◌+◌, List, [], ◌∷◌, ◌++◌, Bool, true, false, ◌&&◌, cond, map, append_assoc, append-nil, arith, Result, Ok, Err, OnOk}
 use Rattle.std.specs.List.{join_with_byte, range_with_len, filter}
 use Rattle.std.proofs.lemmas.Bool.{cond-true, cond-false}
 use Rattle.std.proofs.lemmas.List.{map-append, map-id}
@@ -87,3 +87,10 @@ kept begins piece test n old mid new is_first flag before fails same_text same_f
 pub four_pieces : (empty one two three four a b c d : List ℕ) → empty ≡ [] → one ≡ empty ++ a → two ≡ one ++ b → three ≡ two ++ c → four ≡ three ++ d → four ≡ a ++ b ++ c ++ d
 four_pieces empty one two three four a b c d none first second third fourth =
     rw (fourth, third, second, first, none) refl
+
+-- three lines more, the last where memory suffices
+pub three_more : {T E : Type 0} (old one two three a b c : List ℕ) (result : Result T E) → one ≡ old ++ a → two ≡ one ++ b → OnOk result (three ≡ two ++ c)
+    → OnOk result (three ≡ old ++ (a ++ b ++ c))
+three_more old one two three a b c (Ok done) first second third =
+    third ∙ ap (λ (t : List ℕ). t ++ c) (second ∙ ap (λ (t : List ℕ). t ++ b) first ∙ append_assoc old a b) ∙ append_assoc old (a ++ b) c
+three_more old one two three a b c (Err error) first second third = tt

@@ -3,5 +3,6 @@ pub mod Lines
 pub mod Texts
 pub mod VerdictTexts
 pub mod VerifiedTexts
+pub mod SummaryText
 pub mod FaultLines
 pub mod Refusals

@@ -10,6 +10,8 @@ use Rattle.report.specs.declared.refusal.Refusal.TheVariants.{Usage, Document, R
 use Rattle.report.specs.declared.refusal.Excess.{Excess}
 use Rattle.report.specs.declared.refusal.Excess.TheVariants.{WideSum, WideRow, WideBound, WideCheck, RowBudget, SetLimit}
 use Rattle.report.specs.FaultLines.{document_line, rule_line, wide_sum_line, wide_row_line, wide_bound_line, wide_check_line, budget_line, limit_line, malformed_line, rejected_line, usage_line, length_line, read_line, write_line, memory_line}
+use Rattle.pnml_source.specs.declared.reading.ReadAllFault.{ReadAllFault}
+use Rattle.pnml_source.specs.declared.reading.ReadAllFault.TheVariants as readings
 
 abbrev pub document_status : DocFault → ℕ
 document_status documents.NoMemory = 10
@@ -70,3 +72,9 @@ line_of TooLong = length_line
 line_of ReadFault = read_line
 line_of WriteFault = write_line
 line_of NoMemory = memory_line
+
+-- the refusal of a run whose input isn't there
+abbrev pub reading_refusal : ReadAllFault → Refusal
+reading_refusal readings.NoMemory = NoMemory
+reading_refusal readings.ReadFault = ReadFault
+reading_refusal readings.TooLong = TooLong

@@ -10,6 +10,7 @@ mod reason_words;
 mod refusal;
 mod semiflow_texts;
 mod set_texts;
+mod summary;
 #[cfg(test)]
 mod tests;
 mod verdict_texts;
@@ -21,5 +22,6 @@ pub use net_texts::{check_text, class_text};
 pub use refusal::{Excess, Refusal, status};
 pub use semiflow_texts::{place_semiflows_text, transition_semiflows_text};
 pub use set_texts::{siphons_text, traps_text};
+pub use summary::{Summary, sample_text};
 pub use verdict_texts::{commoner_text, push_siphon};
 pub use verified_texts::verified_text;

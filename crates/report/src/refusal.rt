@@ -4,6 +4,7 @@ ghost use Rattle.report.specs.Refusals.{status_of, document_status, rule_status,
 use net_values::{NoMemory, Text};
 use page_flatten::FlatFault;
 use pnml_decode::DocFault;
+use pnml_source::{ReadAllFault, WriteFault};
 
 /// Why a run wrote no text, or not all of it.
 #[derive(Drop)]
@@ -99,5 +100,49 @@ impl From<NoMemory> for Refusal {
 
     fn from(_error: NoMemory) -> Refusal {
         Refusal::NoMemory
+    }
+}
+
+impl From<DocFault> for Refusal {
+    ghost use Rattle.report.specs.declared.refusal.Refusal.{Refusal};
+
+    ghost from_gives = { λ fault refusal. refusal ≡ Refusal.Document fault };
+
+    fn from(fault: DocFault) -> Refusal {
+        Refusal::Document(fault)
+    }
+}
+
+impl From<FlatFault> for Refusal {
+    ghost use Rattle.report.specs.declared.refusal.Refusal.{Refusal};
+
+    ghost from_gives = { λ fault refusal. refusal ≡ Refusal.Rule fault };
+
+    fn from(fault: FlatFault) -> Refusal {
+        Refusal::Rule(fault)
+    }
+}
+
+impl From<ReadAllFault> for Refusal {
+    ghost use Rattle.report.specs.Refusals.{reading_refusal};
+
+    ghost from_gives = { λ fault refusal. refusal ≡ reading_refusal fault };
+
+    fn from(fault: ReadAllFault) -> Refusal {
+        match fault {
+            ReadAllFault::NoMemory => Refusal::NoMemory,
+            ReadAllFault::ReadFault => Refusal::ReadFault,
+            ReadAllFault::TooLong => Refusal::TooLong,
+        }
+    }
+}
+
+impl From<WriteFault> for Refusal {
+    ghost use Rattle.report.specs.declared.refusal.Refusal.{Refusal};
+
+    ghost from_gives = { λ _ refusal. refusal ≡ Refusal.WriteFault };
+
+    fn from(_fault: WriteFault) -> Refusal {
+        Refusal::WriteFault
     }
 }

@@ -1,6 +1,6 @@
 -- A run without faults, on a document whose tasks stay within their limits, can only end with its text or
 -- out of memory: each other status has a cause that is excluded.
-use Rattle.std.proofs.Common.{◌≡◌, ◌≢◌, ◌⊎◌, ℕ, ◌+◌, ◌≤◌, List, ◌++◌, Option, Some, None, length, refl, sym, ap, subst, ◌∙◌, arith, inl, inr, length-append}
+use Rattle.std.proofs.Common.{◌≡◌, ◌≢◌, ◌⊎◌, ℕ, ◌+◌, ◌≤◌, List, [], ◌++◌, Option, Some, None, length, refl, sym, ap, subst, ◌∙◌, arith, inl, inr, length-append}
 use Rattle.std.proofs.lemmas.List.{append-nil}
 use Rattle.std.proofs.lemmas.Bool.{cases_eq}
 use Rattle.std.specs.Io.KnownBytes.{Consumes, IsAtEnd}
@@ -22,20 +22,22 @@ use Rattle.struct_core.specs.declared.order.Task.{Task}
 use Rattle.struct_core.specs.declared.order.Task.TheVariants as tasks
 use Rattle.struct_core.specs.declared.order.Budgets.{Budgets}
 use Rattle.struct_core.specs.declared.order.Order.{Order}
-use Rattle.struct_core.specs.declared.order.Order.TheVariants.{Run}
-use Rattle.struct_core.specs.Words.{Means}
+use Rattle.struct_core.specs.declared.order.Order.TheVariants.{Run, Sample}
+use Rattle.std.specs.List.{AllByRecursion}
+use Rattle.struct_core.specs.Words.{Means, default_budgets}
+use Rattle.struct_core.specs.Sample.{sample_document}
 use Rattle.struct_core.specs.Enumerations.{FailedStep, wide_sum, wide_row, row_budget, SemiflowOutcome, all_semiflows, step_fails, PassedLimit, set_limit, SetOutcome, all_sets, passes_limit}
-use Rattle.struct_core.specs.Outcome.{TaskOutcome, Outcome}
-use Rattle.struct_core.specs.Run.{Device, Answered, Ran}
-use Rattle.struct_core.specs.Completeness.{IsQuiet, IsShort, NoStepFails, NoBoundIsWide, NoCheckIsWide, IsNarrow, IsFew, IsCertified, WritesText, QuietRunsComplete}
+use Rattle.struct_core.specs.Outcome.{TaskOutcome, Outcome, sample, sample_tasks, SampleOutcome, refused, goes_on, summary}
+use Rattle.struct_core.specs.Run.{Device, Answered, Ran, IsReadWhole, ReadsFor}
+use Rattle.struct_core.specs.Completeness.{IsQuiet, IsShort, NoStepFails, NoBoundIsWide, NoCheckIsWide, IsNarrow, IsFew, IsCertified, WritesText, QuietRunsComplete, QuietTasksComplete, QuietSamplesComplete}
 use Rattle.struct_core.specs.Inputs.{rest_of}
 use Rattle.struct_core.specs.Certificates.{CertBoundOutcome, certified, wide_check, no_bounds, CertVerdictOutcome, certified_verdict, no_verdict, VerifyOutcome, malformed, rejected, accepted}
 use Rattle.certificates.specs.declared.certificate.Certificate.{Certificate}
 use Rattle.certificates.specs.BadLines.{Spells}
 use Rattle.certificates.specs.Conditions.{IsAccepted, LineHolds}
 use Rattle.certificates.proofs.OneReading.{one_reading}
-use Rattle.struct_core.proofs.Orders.{one_order}
-use Rattle.struct_core.proofs.TaskAnswers.{task_answers}
+use Rattle.struct_core.proofs.Orders.{one_order, in_range}
+use Rattle.struct_core.proofs.TaskAnswers.{task_answers, sample_answers}
 use Rattle.siphon_branch.proofs.Limits.{few_not_many}
 
 -- a quiet device tells no fault
@@ -151,10 +153,17 @@ module _ (words : List (List ℕ)) (task : Task) (budgets : Budgets) (source sou
       not_too_long source'.bytes input short.length_is
       (subst (λ (left : Option (List ℕ)). TakesExactly left source'.bytes (MAX_INPUT_BYTES + 1)) tells (ran.reads.too_long is))
 
+  -- the whole input was read
+  read_of : (a : Answered words source source' out out' status line) → a.input ≡ input
+  read_of a =
+      let whole : IsReadWhole source source' a.input =
+      subst (λ (order : Order). ReadsFor order source source' a.input) (one_order words a.order (Run task budgets) a.means means) a.reads in
+      whole_is source'.bytes input a.input (subst (λ (left : Option (List ℕ)). Consumes left source'.bytes a.input) tells whole.read) whole.whole
+
   -- the outcome of the run is that of the order for the input
   outcome_is : (a : Answered words source source' out out' status line) → Outcome (Run task budgets) input a.outcome a.text
   outcome_is a =
-      let read : a.input ≡ input = whole_is source'.bytes input a.input (subst (λ (left : Option (List ℕ)). Consumes left source'.bytes a.input) tells a.read) a.whole in
+      let read = read_of a in
       subst (λ (order : Order). Outcome order input a.outcome a.text) (one_order words a.order (Run task budgets) a.means means)
       (subst (λ (bytes : List ℕ). Outcome a.order bytes a.outcome a.text) read a.comes)
 
@@ -178,7 +187,66 @@ module _ (words : List (List ℕ)) (task : Task) (budgets : Budgets) (source sou
       let a : Answered words source source' out out' status line = ran.answered (not_usage, not_long, not_read_fault, answers) in
       inl (ends a (a.follows (answered_zero a)))
 
-pub quiet_runs : QuietRunsComplete
-quiet_runs words task budgets source source' out out' err err' status input document net run means reads writes tells short flat narrow few fine =
+quiet_tasks : QuietTasksComplete
+quiet_tasks words task budgets source source' out out' err err' status input document net run means reads writes tells short flat narrow few fine =
     completes words task budgets source source' out out' status run.line input document net run.ran means reads writes tells short flat narrow few fine
     (cases_eq status 10)
+
+-- ---- a sample
+
+sample_completes : (document : Document) (net : NetLists) (later : List Task) (status : ℕ) (text : List ℕ)
+    → AllByRecursion (λ task. IsNarrow task default_budgets net × IsFew task default_budgets net × IsCertified task net []) later → SampleOutcome document net later status text → status ≡ 0
+sample_completes document net _ _ _ within (refused task later status line fails outcome) =
+    absurd (fails (task_completes task default_budgets document net [] status line within.0.0 within.0.1 within.0.2 outcome))
+sample_completes document net _ _ _ within (goes_on task later report status text outcome rest) = sample_completes document net later status text within.1 rest
+sample_completes document net _ _ _ within (summary numbers is) = refl
+
+-- the tasks of a sample ask for nothing after the document
+without_rest : (net : NetLists) → AllByRecursion (λ task. IsNarrow task default_budgets net × IsFew task default_budgets net) sample_tasks
+    → AllByRecursion (λ task. IsNarrow task default_budgets net × IsFew task default_budgets net × IsCertified task net []) sample_tasks
+without_rest net within = (
+  (within.0.0, within.0.1, tt),
+  (within.1.0.0, within.1.0.1, tt),
+  (within.1.1.0.0, within.1.1.0.1, tt),
+  (within.1.1.1.0.0, within.1.1.1.0.1, tt),
+  (within.1.1.1.1.0.0, within.1.1.1.1.0.1, tt),
+  tt,
+)
+
+for_any_input : (n : ℕ) (bytes input : List ℕ) (status : ℕ) (text : List ℕ) → Outcome (Sample n) bytes status text → Outcome (Sample n) input status text
+for_any_input _ _ input _ _ (sample n bytes net status text range flat outcome) = sample n input net status text range flat outcome
+
+module _ (words : List (List ℕ)) (n : ℕ) (source source' out out' : Device) (status : ℕ) (line : List ℕ) (input : List ℕ) (net : NetLists)
+    (ran : Ran words source source' out out' status line) (means : Means words (Sample n)) (writes : IsQuiet out out') (flat : Flat (sample_document n) net)
+    (within : AllByRecursion (λ task. IsNarrow task default_budgets net × IsFew task default_budgets net) sample_tasks) where
+  sample_is : (a : Answered words source source' out out' status line) → Outcome (Sample n) a.input a.outcome a.text
+  sample_is a = subst (λ (order : Order). Outcome order a.input a.outcome a.text) (one_order words a.order (Sample n) a.means means) a.comes
+
+  sample_zero : (a : Answered words source source' out out' status line) → a.outcome ≡ 0
+  sample_zero a =
+      sample_completes (sample_document n) net sample_tasks a.outcome a.text (without_rest net within)
+      (sample_answers n a.input net a.outcome a.text (in_range words (Sample n) means) flat (sample_is a))
+
+  sample_ends : (a : Answered words source source' out out' status line) → (status ≡ 0) ⊎ (status ≡ 9) → WritesText (Sample n) input out out' status
+  sample_ends a (inl done) = record {
+    text = a.text;
+    comes = for_any_input n a.input input 0 a.text (subst (λ (m : ℕ). Outcome (Sample n) a.input m a.text) (sample_zero a) (sample_is a));
+    done = done;
+    written = a.done done;
+  }
+  sample_ends a (inr cut) = absurd (no_fault out out' writes (a.cut cut).0)
+
+  sample_quiet : (status ≡ 10) ⊎ (status ≢ 10) → WritesText (Sample n) input out out' status ⊎ (status ≡ 10)
+  sample_quiet (inl memory) = inr memory
+  sample_quiet (inr answers) =
+      let nothing = ran.sample n means in
+      let a : Answered words source source' out out' status line =
+      ran.answered ((λ is. ran.usage is (Sample n) means), nothing.not_too_long, nothing.no_read_fault, answers) in
+      inl (sample_ends a (a.follows (sample_zero a)))
+
+quiet_samples : QuietSamplesComplete
+quiet_samples words n source source' out out' err err' status input net run means writes flat within =
+    sample_quiet words n source source' out out' status run.line input net run.ran means writes flat within (cases_eq status 10)
+
+pub quiet_runs : QuietRunsComplete
+quiet_runs = (quiet_tasks, quiet_samples)

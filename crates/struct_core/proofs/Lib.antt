@@ -5,6 +5,13 @@ pub mod Listing
 pub mod Judging
 pub mod Certifying
 pub mod Outcomes
+pub mod WordNumbers
+pub mod Options
+pub mod SampleMade
+pub mod SampleLists
+pub mod SampleItems
+pub mod SampleRules
+pub mod SampleValued
 pub mod Orders
 pub mod SameNets
 pub mod TaskAnswers
@@ -13,6 +20,9 @@ pub mod SomeClass
 pub mod Truths
 pub mod OneListing
 pub mod OneVerdict
+pub mod OneSummary
+pub mod Greatest
+pub mod Summing
 pub mod OneLiveness
 pub mod OneCertificate
 pub mod OneOutcome
@@ -22,6 +32,8 @@ pub mod SomeLiveness
 pub mod SomeFailure
 pub mod SomeCertificate
 pub mod SomeOutcome
+pub mod SomeSample
+pub mod Sampling
 pub mod VerdictLaws
 pub mod CertificateLaws
 pub mod CanonLine

@@ -1,7 +1,8 @@
 -- For an order and an input there is at most one outcome: bytes spell one document or have one fault, the
 -- document breaks one rule first or has one flat net, and what is said of each list determines it.
-use Rattle.std.proofs.Common.{◌≡◌, ◌⊎◌, ℕ, List, refl, sym, ap, subst, ◌∙◌, inl, inr}
+use Rattle.std.proofs.Common.{◌≡◌, ◌≢◌, ◌⊎◌, ℕ, List, [], refl, sym, ap, subst, ◌∙◌, inl, inr}
 use Rattle.std.specs.Prelude.{Bool}
+use Rattle.std.specs.List.{AllByRecursion}
 use Rattle.net_values.specs.declared.document.Document.{Document}
 use Rattle.net_values.specs.FlatNets.{NetLists, net_of}
 use Rattle.net_values.specs.Net.{Net}
@@ -14,17 +15,22 @@ use Rattle.page_flatten.specs.declared.fault.FlatFault.{FlatFault}
 use Rattle.page_flatten.specs.Rules.{BreaksNoRule, FirstBroken}
 use Rattle.page_flatten.proofs.OneAnswer.{breaks_where_faulty, one_fault}
 use Rattle.report.specs.Texts.{class_text}
+use Rattle.report.specs.declared.summary.Summary.{Summary}
+use Rattle.report.specs.SummaryText.{summary_text}
 use Rattle.struct_core.specs.declared.order.Task.{Task}
 use Rattle.struct_core.specs.declared.order.Task.TheVariants as tasks
 use Rattle.struct_core.specs.declared.order.Budgets.{Budgets}
-use Rattle.struct_core.specs.declared.order.Order.{Order}
-use Rattle.struct_core.specs.declared.order.Order.TheVariants.{Run}
+use Rattle.struct_core.specs.declared.order.Order.TheVariants.{Run, Sample}
 use Rattle.report.specs.FaultLines.{document_line, rule_line}
-use Rattle.struct_core.specs.Outcome.{HasClass, TaskOutcome, Outcome, no_document, broken, answer}
+use Rattle.struct_core.specs.Outcome.{HasClass, TaskOutcome, Outcome, no_document, broken, answer, sample, sample_tasks, SampleOutcome, refused, goes_on, summary}
 use Rattle.struct_core.specs.Determined.{DifferInTree, IsSameText, HasOneOutcome}
 use Rattle.struct_core.specs.Inputs.{front_of, rest_of}
+use Rattle.page_flatten.specs.Flat.{Flat}
+use Rattle.struct_core.specs.Words.{default_budgets, IsInRange}
+use Rattle.struct_core.specs.Sample.{sample_document}
+use Rattle.struct_core.proofs.OneSummary.{one_summary}
 use Rattle.struct_core.proofs.Truths.{same_answer}
-use Rattle.struct_core.proofs.TaskAnswers.{task_answers}
+use Rattle.struct_core.proofs.TaskAnswers.{task_answers, sample_answers}
 use Rattle.struct_core.proofs.OneListing.{one_semiflow_outcome, one_set_outcome}
 use Rattle.struct_core.proofs.OneVerdict.{one_bound_outcome, one_commoner_outcome}
 use Rattle.struct_core.proofs.OneLiveness.{one_live_outcome}
@@ -85,6 +91,33 @@ one_task_outcome tasks.Verify budgets document net rest status other text line o
     exactly (one_verify_outcome _ rest status other text line one another)
 one_task_outcome tasks.Live budgets document net rest status other text line one another = exactly (one_live_outcome _ _ _ status other text line one another)
 
+-- ---- a sample
+
+-- a task that makes no tree has one text
+not_a_tree : (task : Task) → task ≢ tasks.CertCommoner → {text line : List ℕ} → IsSameText (Run task default_budgets) text line → text ≡ line
+not_a_tree task plain (inl same) = same
+not_a_tree task plain (inr tree) = (let is = tree.0.1 in absurd (plain (cc)))
+
+abbrev MakeNoTree : List Task → Type 0
+MakeNoTree later = AllByRecursion (λ task. task ≢ tasks.CertCommoner) later
+
+one_sample : (document : Document) (net : NetLists) (later : List Task) (status other : ℕ) (text line : List ℕ) → MakeNoTree later
+    → SampleOutcome document net later status text → SampleOutcome document net later other line → (status ≡ other) × (text ≡ line)
+one_sample document net _ _ _ _ _ plain (refused task later status line fails outcome) (refused _ _ other text fail another) =
+    let same = one_task_outcome task default_budgets document net [] status other line text outcome another in
+    (same.0, not_a_tree task plain.0 same.1)
+one_sample document net _ _ _ _ _ plain (refused task later status line fails outcome) (goes_on _ _ report other text another rest) =
+    absurd (fails (one_task_outcome task default_budgets document net [] status 0 line report outcome another).0)
+one_sample document net _ _ _ _ _ plain (goes_on task later report status text outcome rest) (refused _ _ other line fails another) =
+    absurd (fails (one_task_outcome task default_budgets document net [] other 0 line report another outcome).0)
+one_sample document net _ _ _ _ _ plain (goes_on task later report status text outcome rest) (goes_on _ _ another other line also more) =
+    one_sample document net later status other text line plain.1 rest more
+one_sample document net _ _ _ _ _ plain (summary numbers is) (summary others also) =
+    (refl, ap (λ (n : Summary). summary_text n) (one_summary (net_of net) net.arcs numbers others is also))
+
+sample_makes_none : MakeNoTree sample_tasks
+sample_makes_none = (λ is. cc, λ is. cc, λ is. cc, λ is. cc, λ is. cc, tt)
+
 -- ---- an order
 
 no_other : (task : Task) (budgets : Budgets) (bytes : List ℕ) (fault : Fault) (status : ℕ) (text : List ℕ) → FirstFault (front_of task bytes) fault
@@ -103,6 +136,11 @@ broken_only _ _ _ document fault _ _ spelled is (broken task budgets bytes anoth
 broken_only _ _ _ document fault _ _ spelled is (answer task budgets bytes another net status text profile flat outcome) =
     absurd (breaks_where_faulty document fault is (subst BreaksNoRule (spells_one (front_of task bytes) another document profile.spelled spelled) profile.rules))
 
+one_sample_outcome : (n : ℕ) (bytes : List ℕ) (net : NetLists) (status other : ℕ) (text line : List ℕ) → IsInRange (Sample n) → Flat (sample_document n) net
+    → SampleOutcome (sample_document n) net sample_tasks status text → Outcome (Sample n) bytes other line → (status ≡ other) × (text ≡ line)
+one_sample_outcome n bytes net status other text line range flat outcome another =
+    one_sample (sample_document n) net sample_tasks status other text line sample_makes_none outcome (sample_answers n bytes net other line range flat another)
+
 pub one_outcome : HasOneOutcome
 one_outcome _ _ _ other _ line (no_document task budgets bytes fault first) another =
     let same : (other ≡ 3) × (line ≡ document_line fault) = no_other task budgets bytes fault other line first another in
@@ -113,3 +151,5 @@ one_outcome _ _ _ other _ line (broken task budgets bytes document fault spelled
 one_outcome _ _ _ other _ line (answer task budgets bytes document net status text profile flat outcome) another =
     one_task_outcome task budgets document net (rest_of task bytes) status other text line outcome
     (task_answers task budgets bytes document net other line profile flat another)
+one_outcome _ _ _ other _ line (sample n bytes net status text range flat outcome) another =
+    exactly (one_sample_outcome n bytes net status other text line range flat outcome another)

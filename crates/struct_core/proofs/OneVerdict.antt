@@ -27,7 +27,7 @@ use Rattle.struct_core.proofs.Truths.{same_answer}
 
 -- ---- bounds
 
-one_bound : (net : Net) (p : ℕ) (one other : Option ℕ) → IsLeastBound net p one → IsLeastBound net p other → one ≡ other
+pub one_bound : (net : Net) (p : ℕ) (one other : Option ℕ) → IsLeastBound net p one → IsLeastBound net p other → one ≡ other
 one_bound net p None None is also = refl
 one_bound net p None (Some b) is also = absurd (is also.attained.0 also.attained.1 also.attained.2)
 one_bound net p (Some a) None is also = absurd (also is.attained.0 is.attained.1 is.attained.2)

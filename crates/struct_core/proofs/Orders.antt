@@ -1,55 +1,65 @@
--- Words mean at most one order: a task is read back from its word.
-use Rattle.std.proofs.Common.{◌≡◌, ℕ, List, [], ◌∷◌, Some, None, Option, refl, sym, ap, ◌∙◌}
-use Rattle.std.specs.Prelude.{codes, if◌then◌else◌, nat_eq}
-use Rattle.std.specs.List.{starts_with}
+-- Words mean at most one order: their first word is that of one task or `sample`, and the words after it mean
+-- one number or one choice of budgets.
+use Rattle.std.proofs.Common.{◌≡◌, ℕ, List, [], ◌∷◌, Some, None, Option, arith, refl, sym, ap, subst, ◌∙◌, length, get_or}
+use Rattle.std.specs.Prelude.{codes}
 use Rattle.std.proofs.lemmas.Option.{same_Some}
 use Rattle.struct_core.specs.declared.order.Task.{Task}
-use Rattle.struct_core.specs.declared.order.Task.TheVariants.{Check, Canon, Class, Places, Transitions, Siphons, Traps, Bounds, Commoner, CertBounds, CertCommoner, Verify, Live}
+use Rattle.struct_core.specs.declared.order.Budgets.{Budgets}
 use Rattle.struct_core.specs.declared.order.Order.{Order}
-use Rattle.struct_core.specs.declared.order.Order.TheVariants.{Run}
-use Rattle.struct_core.specs.Words.{Means, task_word, default_budgets}
+use Rattle.struct_core.specs.declared.order.Order.TheVariants.{Run, Sample}
+use Rattle.struct_core.specs.Words.{task_words, tasks, task_named, IsNumber, MeanBudgets, MeansTask, MeansSample, Means, IsInRange, HasOneMeaning}
+use Rattle.struct_core.proofs.WordNumbers.{one_number}
+use Rattle.struct_core.proofs.Options.{one_budgets}
 
--- the task whose word comes first in the text
-abbrev task_of : List ℕ → Option Task
-task_of word =
-    if starts_with nat_eq word (codes "check") then Some Check
-    else if starts_with nat_eq word (codes "canon") then Some Canon
-    else if starts_with nat_eq word (codes "class") then Some Class
-    else if starts_with nat_eq word (codes "places") then Some Places
-    else if starts_with nat_eq word (codes "transitions") then Some Transitions
-    else if starts_with nat_eq word (codes "siphons") then Some Siphons
-    else if starts_with nat_eq word (codes "traps") then Some Traps
-    else if starts_with nat_eq word (codes "bounds") then Some Bounds
-    else if starts_with nat_eq word (codes "commoner") then Some Commoner
-    else if starts_with nat_eq word (codes "cert-bounds") then Some CertBounds
-    else if starts_with nat_eq word (codes "cert-commoner") then Some CertCommoner
-    else if starts_with nat_eq word (codes "verify") then Some Verify
-    else if starts_with nat_eq word (codes "live") then Some Live
-    else None
+-- `sample` is the word of no task
+pub sample_alone : task_named (codes "sample") ≡ None
+unfolding task_named task_words tasks
+sample_alone = refl
 
-word_read : (task : Task) → task_of (task_word task) ≡ Some task
-word_read Check = refl
-word_read Canon = refl
-word_read Class = refl
-word_read Places = refl
-word_read Transitions = refl
-word_read Siphons = refl
-word_read Traps = refl
-word_read Bounds = refl
-word_read Commoner = refl
-word_read CertBounds = refl
-word_read CertCommoner = refl
-word_read Verify = refl
-word_read Live = refl
+no_task : (words : List (List ℕ)) (task : Task) (budgets : Budgets) (n : ℕ) → MeansTask words task budgets → MeansSample words n → ⊥
+no_task words task budgets n is also =
+    let first : is.word ≡ codes "sample" = cc (is.words_are, also.words_are) in
+    let named : Some task ≡ None = sym is.named ∙ ap task_named first ∙ sample_alone in
+    cc
 
-one_task : (one other : Task) → task_word one ≡ task_word other → one ≡ other
-one_task one other same = same_Some one other (sym (word_read one) ∙ ap task_of same ∙ word_read other)
+pub one_order : HasOneMeaning
+one_order words (Run task budgets) (Run other budget) is also =
+    let first : is.word ≡ also.word = cc (is.words_are, also.words_are) in
+    let rest : is.others ≡ also.others = cc (is.words_are, also.words_are) in
+    let tasks_are : task ≡ other = same_Some task other (sym is.named ∙ ap task_named first ∙ also.named) in
+    let budgets_are : budgets ≡ budget = one_budgets also.others budgets budget (subst (λ (t : List (List ℕ)). MeanBudgets t budgets) rest is.said) also.said in
+    ap (λ (t : Task). Run t budgets) tasks_are ∙ ap (λ (b : Budgets). Run other b) budgets_are
+one_order words (Run task budgets) (Sample n) is also = absurd (no_task words task budgets n is also)
+one_order words (Sample n) (Run task budgets) is also = absurd (no_task words task budgets n also is)
+one_order words (Sample m) (Sample n) is also =
+    let word : is.word ≡ also.word = cc (is.words_are, also.words_are) in
+    ap Sample (one_number 2 200 also.word m n (omega arith) (subst (λ (t : List ℕ). IsNumber 2 200 t m) word is.number) also.number)
 
-abbrev first_word : List (List ℕ) → List ℕ
-first_word [] = []
-first_word (word ∷ words) = word
+pub in_range : (words : List (List ℕ)) (order : Order) → Means words order → IsInRange order
+in_range words (Run task budgets) means = tt
+in_range words (Sample n) means = (means.number.low, means.number.high)
 
-pub one_order : (words : List (List ℕ)) (one other : Order) → Means words one → Means words other → one ≡ other
-one_order words one other means also =
-    let same : task_word means.0 ≡ task_word also.0 = ap first_word (sym means.1 ∙ also.1) in
-    means.2 ∙ ap (λ (task : Task). Run task default_budgets) (one_task means.0 also.0 same) ∙ sym also.2
+-- a list of one word
+only : (words : List (List ℕ)) (word : List ℕ) → length words ≡ 1 → word ≡ get_or words 0 word → words ≡ word ∷ []
+only [] word one is = absurd (omega (arith, one))
+only (first ∷ []) word one is = ap (λ (w : List ℕ). w ∷ []) (sym is)
+only (first ∷ second ∷ words) word one is = absurd (omega (arith, one))
+
+pub sample_means : (first : List ℕ) (rest : List (List ℕ)) (word text : List ℕ) (n : ℕ) → first ≡ codes "sample" → length rest ≡ 1
+    → word ≡ get_or rest 0 word → text ≡ word → IsNumber 2 200 text n → MeansSample (first ∷ rest) n
+sample_means first rest word text n begins one is same number = record {
+  word = text;
+  words_are = ap (λ (w : List ℕ). w ∷ rest) begins ∙ ap (λ (ws : List (List ℕ)). codes "sample" ∷ ws) (only rest word one is ∙ ap (λ (w : List ℕ). w ∷ []) (sym same));
+  number = number;
+}
+
+-- after the word of a task there are no other words than those of its options
+pub no_options : (word : List ℕ) (rest : List (List ℕ)) (task : Task) → task_named word ≡ Some task → ((budgets : Budgets) → MeanBudgets rest budgets → ⊥)
+    → (order : Order) → Means (word ∷ rest) order → ⊥
+no_options word rest task named none (Run other budgets) is =
+    let others : is.others ≡ rest = cc (is.words_are) in
+    none budgets (subst (λ (t : List (List ℕ)). MeanBudgets t budgets) others is.said)
+no_options word rest task named none (Sample n) is =
+    let first : word ≡ codes "sample" = cc (is.words_are) in
+    let both : Some task ≡ None = sym named ∙ ap task_named first ∙ sample_alone in
+    cc

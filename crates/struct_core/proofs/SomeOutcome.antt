@@ -25,7 +25,7 @@ use Rattle.struct_core.specs.declared.order.Order.TheVariants.{Run}
 use Rattle.report.specs.FaultLines.{document_line, rule_line, limit_line, wide_bound_line}
 use Rattle.struct_core.specs.Enumerations.{AreListed, SemiflowOutcome, all_semiflows, step_fails, SetOutcome, all_sets, passes_limit, set_limit}
 use Rattle.struct_core.specs.Outcome.{TaskOutcome, Profile, Outcome, no_document, broken, answer}
-use Rattle.struct_core.specs.Determined.{IsEliminationDecided, IsDecided, HasSomeOutcome}
+use Rattle.struct_core.specs.Determined.{IsEliminationDecided, IsDecided, HasSomeTaskOutcome}
 use Rattle.struct_core.specs.Laws.{CanonStays}
 use Rattle.std.specs.Cmp.Lexicographic.{slice_cmp}
 use Rattle.std.specs.Ordering.{bool_cmp}
@@ -47,7 +47,7 @@ use Rattle.struct_core.proofs.SomeClass.{both, positive, ordinary_or_not, truth_
 use Rattle.page_flatten.proofs.Decisions.{Decided}
 use Rattle.net_class.specs.declared.verdict.Verdict.{Verdict}
 use Rattle.net_class.specs.declared.verdict.Verdict.TheVariants.{Yes, No}
-use Rattle.siphon_branch.specs.Limits.{IsGrownSet}
+use Rattle.siphon_branch.specs.Limits.{HasAtMostGrown, IsGrownSet}
 use Rattle.report.specs.VerdictTexts.{ProvesDeadlockFree, verdict_lines, deadlock_line}
 use Rattle.struct_core.specs.Verdicts.{BoundOutcome, all_bounds, wide_bound, no_semiflows, IsVerdict, CommonerOutcome, verdict, no_siphons}
 
@@ -86,17 +86,19 @@ proves net Yes = elim (both _ _ (ordinary_or_not net) (positive net.transitions)
 ]
 proves net (No siphon) = inr (λ h. (let is = h.yes in cc))
 
+-- a verdict has a text
+pub verdict_text : (net : Net) (ids : ℕ → List ℕ) (limit : ℕ) → HasAtMostGrown net limit → (one : Verdict) → IsVerdict net one
+    → (text : List ℕ) × CommonerOutcome net ids limit 0 text
+verdict_text net ids limit few one is =
+    let text : List ℕ = verdict_lines ids one ++ deadlock_line (truth_of (proves net one)) in
+    (text, verdict one text few is record { is_proved = truth_of (proves net one); exact = tells_truth (proves net one); spelled = refl })
+
 some_verdict : (net : Net) (ids : ℕ → List ℕ) (limit : ℕ) → AtMostOrMore (IsGrownSet net) limit → (one : Verdict) → IsVerdict net one
     → (status : ℕ) × (text : List ℕ) × CommonerOutcome net ids limit status text
-some_verdict net ids limit (inl few) one is =
-    let text : List ℕ = verdict_lines ids one ++ deadlock_line (truth_of (proves net one)) in (
-      0,
-      text,
-      verdict one text few is record { is_proved = truth_of (proves net one); exact = tells_truth (proves net one); spelled = refl },
-    )
+some_verdict net ids limit (inl few) one is = let told = verdict_text net ids limit few one is in (0, told.0, told.1)
 some_verdict net ids limit (inr many) one is = (6, limit_line limit, no_siphons 6 (limit_line limit) (set_limit many.0 many.1))
 
-some_task_outcome : (task : Task) (budgets : Budgets) (document : Document) (net : NetLists) (rest : List ℕ) → (net_of net).places ≤ MAX_PLACES
+pub some_task_outcome : (task : Task) (budgets : Budgets) (document : Document) (net : NetLists) (rest : List ℕ) → (net_of net).places ≤ MAX_PLACES
     → IsDecided task budgets net → (status : ℕ) × (text : List ℕ) × TaskOutcome task budgets document net rest status text
 some_task_outcome tasks.Check budgets document net rest limit decided = (0, check_text (net_of net).places (net_of net).transitions net.arcs, (refl, refl))
 some_task_outcome tasks.Canon budgets document net rest limit decided = (0, canon document, (refl, refl))
@@ -137,8 +139,8 @@ module _ (task : Task) (budgets : Budgets) (input : List ℕ)
   of_input (inl spelled) = of_document spelled.0 spelled.1 (net_or_fault spelled.0)
   of_input (inr fault) = (3, document_line fault.0, no_document task budgets input fault.0 fault.1)
 
-pub some_outcome : HasSomeOutcome
-some_outcome task budgets input decide = of_input task budgets input decide (some_answer (front_of task input))
+pub some_of_task : HasSomeTaskOutcome
+some_of_task task budgets input decide = of_input task budgets input decide (some_answer (front_of task input))
 
 -- ---- canonical texts
 

@@ -1,6 +1,6 @@
 -- An input whose document is in the profile has the outcome of its task: its bytes spell one document, which breaks no rule, and flat
 -- nets of one document are one net.
-use Rattle.std.proofs.Common.{◌≡◌, ℕ, List, ap, subst, ◌∙◌}
+use Rattle.std.proofs.Common.{◌≡◌, ℕ, List, [], ap, subst, ◌∙◌}
 use Rattle.std.specs.Prelude.{codes}
 use Rattle.net_values.specs.declared.document.Document.{Document}
 use Rattle.net_values.specs.FlatNets.{NetLists, net_of}
@@ -19,13 +19,17 @@ use Rattle.report.specs.Texts.{check_text}
 use Rattle.struct_core.specs.declared.order.Task.{Task}
 use Rattle.struct_core.specs.declared.order.Task.TheVariants as tasks
 use Rattle.struct_core.specs.declared.order.Budgets.{Budgets}
-use Rattle.struct_core.specs.declared.order.Order.TheVariants.{Run}
+use Rattle.struct_core.specs.declared.order.Order.TheVariants.{Run, Sample}
 use Rattle.struct_core.specs.Enumerations.{SemiflowOutcome, SetOutcome}
 use Rattle.struct_core.specs.Verdicts.{BoundOutcome, CommonerOutcome, LiveOutcome}
 use Rattle.struct_core.specs.Certificates.{CertBoundOutcome, CertVerdictOutcome, VerifyOutcome}
 use Rattle.struct_core.specs.Inputs.{front_of, rest_of}
 use Rattle.pnml_grammar.specs.Canon.{canon}
-use Rattle.struct_core.specs.Outcome.{HasClass, TaskOutcome, Profile, Outcome, no_document, broken, answer}
+use Rattle.struct_core.specs.Outcome.{HasClass, TaskOutcome, Profile, Outcome, no_document, broken, answer, sample, sample_tasks, SampleOutcome, refused, goes_on, summary}
+use Rattle.struct_core.specs.Words.{default_budgets, IsInRange}
+use Rattle.struct_core.specs.Sample.{sample_document}
+use Rattle.struct_core.specs.Summaries.{IsSummary}
+use Rattle.struct_core.proofs.SampleValued.{sample_profile}
 use Rattle.struct_core.proofs.SameNets.{same_net, same_place_ids, same_transition_ids}
 
 -- the same of the same net in other lists
@@ -87,3 +91,21 @@ task_answers _ _ _ document net _ _ profile flat (answer task budgets bytes othe
     let same : other ≡ document = spells_one (front_of task bytes) other document kept.spelled profile.spelled in
     outcome_as task budgets document lists net (rest_of task bytes) status text (one_flat document lists net profile.rules (subst (λ d. Flat d lists) same is) flat)
     (subst (λ d. TaskOutcome task budgets d lists (rest_of task bytes) status text) same outcome)
+
+-- ---- a sample
+
+sample_as : (document : Document) (one other : NetLists) (later : List Task) (status : ℕ) (text : List ℕ) → IsSameNet one other
+    → SampleOutcome document one later status text → SampleOutcome document other later status text
+sample_as document one other _ _ _ same (refused task later status line fails outcome) =
+    refused task later status line fails (outcome_as task default_budgets document one other [] status line same outcome)
+sample_as document one other _ _ _ same (goes_on task later report status text outcome rest) =
+    goes_on task later report status text (outcome_as task default_budgets document one other [] 0 report same outcome) (sample_as document one other later status text same rest)
+sample_as document one other _ _ _ same (summary numbers is) =
+    summary numbers (subst (λ (n : ℕ). IsSummary (net_of other) n numbers) same.count (subst (λ (net : Net). IsSummary net one.arcs numbers) (same_net one other same) is))
+
+-- of each flat net of the sample the outcome is the same
+pub sample_answers : (n : ℕ) (bytes : List ℕ) (net : NetLists) (status : ℕ) (text : List ℕ) → IsInRange (Sample n) → Flat (sample_document n) net
+    → Outcome (Sample n) bytes status text → SampleOutcome (sample_document n) net sample_tasks status text
+sample_answers _ _ net _ _ range flat (sample n bytes lists status text also is outcome) =
+    sample_as (sample_document n) lists net sample_tasks status text
+    (one_flat (sample_document n) lists net (sample_profile n range.1).rules is flat) outcome

@@ -26,12 +26,14 @@ use Rattle.struct_core.specs.declared.order.Task.{Task}
 use Rattle.struct_core.specs.declared.order.Task.TheVariants as tasks
 use Rattle.struct_core.specs.declared.order.Budgets.{Budgets}
 use Rattle.struct_core.specs.declared.order.Order.{Order}
-use Rattle.struct_core.specs.declared.order.Order.TheVariants.{Run}
+use Rattle.struct_core.specs.declared.order.Order.TheVariants.{Run, Sample}
 use Rattle.free_choice_live.specs.Answers.{IsAsked}
 use Rattle.struct_core.specs.Inputs.{front_of, rest_of}
-use Rattle.struct_core.specs.Outcome.{Outcome, Profile}
+use Rattle.struct_core.specs.Outcome.{Outcome, Profile, sample_tasks}
+use Rattle.std.specs.List.{AllByRecursion}
+use Rattle.struct_core.specs.Sample.{sample_document}
 use Rattle.struct_core.specs.Run.{Device, HasRun}
-use Rattle.struct_core.specs.Words.{Means}
+use Rattle.struct_core.specs.Words.{Means, default_budgets}
 
 -- the count of a device neither rose nor is at its last value
 pub record IsQuiet (old new : Device) : Type 0 where
@@ -92,11 +94,22 @@ pub record WritesText (order : Order) (input : List ℕ) (out out' : Device) (st
 -- where the words mean a task, no device fails and the source tells a short input, whose net is narrow and
 -- has few sets, and what follows the document is as the task asks, the defined text is written, or memory was
 -- refused
-abbrev pub QuietRunsComplete : Type 0
-QuietRunsComplete =
+abbrev pub QuietTasksComplete : Type 0
+QuietTasksComplete =
     (words : List (List ℕ)) (task : Task) (budgets : Budgets) (source source' out out' err err' : Device) (status : ℕ)
     (input : List ℕ) (document : Document) (net : NetLists)
     → HasRun words source source' out out' err err' status → Means words (Run task budgets)
     → IsQuiet source source' → IsQuiet out out' → source.bytes ≡ Some input → IsShort task input document
     → Flat document net → IsNarrow task budgets net → IsFew task budgets net → IsCertified task net (rest_of task input)
     → WritesText (Run task budgets) input out out' status ⊎ (status ≡ 10)
+
+-- `sample` needs neither a quiet source nor a short input, but that its net is narrow and has few sets
+abbrev pub QuietSamplesComplete : Type 0
+QuietSamplesComplete =
+    (words : List (List ℕ)) (n : ℕ) (source source' out out' err err' : Device) (status : ℕ) (input : List ℕ) (net : NetLists)
+    → HasRun words source source' out out' err err' status → Means words (Sample n) → IsQuiet out out' → Flat (sample_document n) net
+    → AllByRecursion (λ task. IsNarrow task default_budgets net × IsFew task default_budgets net) sample_tasks
+    → WritesText (Sample n) input out out' status ⊎ (status ≡ 10)
+
+abbrev pub QuietRunsComplete : Type 0
+QuietRunsComplete = QuietTasksComplete × QuietSamplesComplete

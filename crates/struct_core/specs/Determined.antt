@@ -16,10 +16,13 @@ use Rattle.struct_core.specs.declared.order.Task.{Task}
 use Rattle.struct_core.specs.declared.order.Task.TheVariants as tasks
 use Rattle.struct_core.specs.declared.order.Budgets.{Budgets}
 use Rattle.struct_core.specs.declared.order.Order.{Order}
-use Rattle.struct_core.specs.declared.order.Order.TheVariants.{Run}
+use Rattle.struct_core.specs.declared.order.Order.TheVariants.{Run, Sample}
 use Rattle.struct_core.specs.Enumerations.{AreListed}
 use Rattle.struct_core.specs.Inputs.{front_of}
-use Rattle.struct_core.specs.Outcome.{Outcome, Profile}
+use Rattle.struct_core.specs.Outcome.{Outcome, Profile, sample_tasks}
+use Rattle.std.specs.List.{AllByRecursion}
+use Rattle.struct_core.specs.Words.{default_budgets, IsInRange}
+use Rattle.struct_core.specs.Sample.{sample_document}
 
 -- two texts that begin with the same canonical text and go on with a certificate for Commoner's condition each
 pub record DifferInTree (text line : List ℕ) : Type 0 where
@@ -57,9 +60,19 @@ IsDecided tasks.Bounds budgets net = IsEliminationDecided (incidence_of (net_of 
 IsDecided tasks.CertBounds budgets net = IsEliminationDecided (incidence_of (net_of net)) budgets.rows
 IsDecided _ budgets net = Unit
 
--- every input has an outcome, where the elimination of its net is decided
-abbrev pub HasSomeOutcome : Type 0
-HasSomeOutcome =
+-- of a task every input has an outcome, where the elimination of its net is decided
+abbrev pub HasSomeTaskOutcome : Type 0
+HasSomeTaskOutcome =
     (task : Task) (budgets : Budgets) (input : List ℕ)
     → ((document : Document) (net : NetLists) → Profile (front_of task input) document → Flat document net → IsDecided task budgets net)
     → (status : ℕ) × (text : List ℕ) × Outcome (Run task budgets) input status text
+
+-- and each sample has one, where those of its net are
+abbrev pub HasSomeSampleOutcome : Type 0
+HasSomeSampleOutcome =
+    (n : ℕ) (input : List ℕ) → IsInRange (Sample n)
+    → ((net : NetLists) → Flat (sample_document n) net → AllByRecursion (λ task. IsDecided task default_budgets net) sample_tasks)
+    → (status : ℕ) × (text : List ℕ) × Outcome (Sample n) input status text
+
+abbrev pub HasSomeOutcome : Type 0
+HasSomeOutcome = HasSomeTaskOutcome × HasSomeSampleOutcome

@@ -1,5 +1,5 @@
 -- What the outcomes of runs tell.
-use Rattle.std.specs.Prelude.{◌≡◌, ◌⊎◌, ℕ, List, Bool, Option, All, length, slice_index, codes}
+use Rattle.std.specs.Prelude.{◌≡◌, ◌⊎◌, ℕ, List, Bool, Option, All, length, slice_index, codes, ◌≤◌}
 use Rattle.net_values.specs.declared.document.Document.{Document}
 use Rattle.net_values.specs.FlatNets.{NetLists, net_of}
 use Rattle.net_values.specs.PlaceSets.{has}
@@ -23,7 +23,8 @@ use Rattle.report.specs.Texts.{semiflows_text, sets_text, bounds_text}
 use Rattle.struct_core.specs.declared.order.Task.TheVariants as tasks
 use Rattle.struct_core.specs.declared.order.Budgets.{Budgets}
 use Rattle.struct_core.specs.declared.order.Order.TheVariants.{Run}
-use Rattle.struct_core.specs.Outcome.{TaskOutcome, Outcome}
+use Rattle.struct_core.specs.Sample.{sample_document}
+use Rattle.struct_core.specs.Outcome.{TaskOutcome, Profile, Outcome}
 
 -- an entry for each row of the matrix, and a semiflow
 pub record IsSemiflowRow (m : Matrix) (row : List ℕ) : Type 0 where
@@ -106,3 +107,7 @@ CanonStays =
     (budgets : Budgets) (document : Document) → Valued document → BreaksNoRule document
     → Outcome (Run tasks.Canon budgets) (canon document) 0 (canon document)
     × ((status : ℕ) (text : List ℕ) → Outcome (Run tasks.Canon budgets) (canon document) status text → (status ≡ 0) × (text ≡ canon document))
+
+-- the canonical text of each sample net spells it, and the net breaks no rule
+abbrev pub SamplesAreInTheProfile : Type 0
+SamplesAreInTheProfile = (n : ℕ) → 2 ≤ n → n ≤ 200 → Profile (canon (sample_document n)) (sample_document n)

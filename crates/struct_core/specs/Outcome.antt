@@ -1,5 +1,5 @@
 -- What an order gives for an input: a status and a text, or a status and the line that tells it.
-use Rattle.std.specs.Prelude.{◌≡◌, ◌↔◌, ℕ, List, IsTrue, codes}
+use Rattle.std.specs.Prelude.{◌≡◌, ◌≢◌, ◌↔◌, ℕ, List, [], ◌∷◌, IsTrue, codes}
 use Rattle.net_values.specs.declared.document.Document.{Document}
 use Rattle.net_values.specs.Net.{Net}
 use Rattle.net_values.specs.FlatNets.{NetLists, net_of}
@@ -21,8 +21,13 @@ use Rattle.struct_core.specs.declared.order.Task.{Task}
 use Rattle.struct_core.specs.declared.order.Task.TheVariants as tasks
 use Rattle.struct_core.specs.declared.order.Budgets.{Budgets}
 use Rattle.struct_core.specs.declared.order.Order.{Order}
-use Rattle.struct_core.specs.declared.order.Order.TheVariants.{Run}
+use Rattle.struct_core.specs.declared.order.Order.TheVariants.{Run, Sample}
 use Rattle.report.specs.FaultLines.{document_line, rule_line}
+use Rattle.report.specs.declared.summary.Summary.{Summary}
+use Rattle.report.specs.SummaryText.{summary_text}
+use Rattle.struct_core.specs.Words.{default_budgets, IsInRange}
+use Rattle.struct_core.specs.Sample.{sample_document}
+use Rattle.struct_core.specs.Summaries.{IsSummary}
 use Rattle.struct_core.specs.Enumerations.{SemiflowOutcome, SetOutcome}
 use Rattle.struct_core.specs.Inputs.{front_of, rest_of}
 use Rattle.struct_core.specs.Verdicts.{BoundOutcome, CommonerOutcome, LiveOutcome}
@@ -59,6 +64,19 @@ TaskOutcome tasks.CertCommoner budgets document net rest status text = CertVerdi
 TaskOutcome tasks.Verify budgets document net rest status text = VerifyOutcome (net_of net) rest status text
 TaskOutcome tasks.Live budgets document net rest status text = LiveOutcome (net_of net) (place_id net) budgets.sets status text
 
+-- what `sample` computes of its net
+abbrev pub sample_tasks : List Task
+sample_tasks = tasks.Places ∷ tasks.Transitions ∷ tasks.Siphons ∷ tasks.Bounds ∷ tasks.Commoner ∷ []
+
+-- what it gives: the line of the first task that is refused, within the default budgets, or else the summary
+pub data SampleOutcome (document : Document) (net : NetLists) : List Task → ℕ → List ℕ → Type 0 where
+  refused : (task : Task) (later : List Task) (status : ℕ) (line : List ℕ) → status ≢ 0
+      → TaskOutcome task default_budgets document net [] status line → SampleOutcome document net (task ∷ later) status line
+  goes_on : (task : Task) (later : List Task) (report : List ℕ) (status : ℕ) (text : List ℕ)
+      → TaskOutcome task default_budgets document net [] 0 report → SampleOutcome document net later status text
+      → SampleOutcome document net (task ∷ later) status text
+  summary : (numbers : Summary) → IsSummary (net_of net) net.arcs numbers → SampleOutcome document net [] 0 (summary_text numbers)
+
 -- the bytes spell the document, and it breaks no rule
 pub record Profile (bytes : List ℕ) (document : Document) : Type 0 where
   pub spelled : DocBytes document bytes
@@ -76,3 +94,6 @@ pub data Outcome : Order → List ℕ → ℕ → List ℕ → Type 0 where
   answer : (task : Task) (budgets : Budgets) (bytes : List ℕ) (document : Document) (net : NetLists) (status : ℕ) (text : List ℕ)
       → Profile (front_of task bytes) document → Flat document net → TaskOutcome task budgets document net (rest_of task bytes) status text
       → Outcome (Run task budgets) bytes status text
+  -- the sample net, which is in the profile, whatever the input
+  sample : (n : ℕ) (bytes : List ℕ) (net : NetLists) (status : ℕ) (text : List ℕ) → IsInRange (Sample n) → Flat (sample_document n) net
+      → SampleOutcome (sample_document n) net sample_tasks status text → Outcome (Sample n) bytes status text

@@ -5,6 +5,7 @@ use Rattle.net_values.specs.declared.limits.TheConstants.{MAX_INPUT_BYTES}
 use Rattle.pnml_source.specs.Causes.{Rose}
 use Rattle.pnml_source.specs.Streams.{AppendsFront, TakesAtMost, TakesExactly}
 use Rattle.struct_core.specs.declared.order.Order.{Order}
+use Rattle.struct_core.specs.declared.order.Order.TheVariants.{Run, Sample}
 use Rattle.struct_core.specs.Words.{Means}
 use Rattle.report.specs.FaultLines.{usage_line, length_line, read_line, write_line, memory_line}
 use Rattle.struct_core.specs.Outcome.{Outcome}
@@ -43,7 +44,18 @@ pub data OwnLine : ℕ → List ℕ → Type 0 where
   write_fault : OwnLine 9 write_line
   no_memory : OwnLine 10 memory_line
 
--- a run with an outcome: all of the input was read, and the text was written, or the outcome's status given
+-- all of the input was read, and it is no longer than may be read
+pub record IsReadWhole (source source' : Device) (input : List ℕ) : Type 0 where
+  pub read : Consumes source.bytes source'.bytes input
+  pub whole : IsAtEnd source'.bytes
+  pub short : length input ≤ MAX_INPUT_BYTES
+
+-- what an order reads: a task the whole input, `sample` nothing
+abbrev pub ReadsFor : Order → Device → Device → List ℕ → Type 0
+ReadsFor (Run task budgets) source source' input = IsReadWhole source source' input
+ReadsFor (Sample n) source source' input = IsUntouched source source'
+
+-- a run with an outcome: what its order reads was read, and the text was written, or the outcome's status given
 -- with its line
 pub record Answered (words : List (List ℕ)) (source source' out out' : Device) (status : ℕ) (line : List ℕ) : Type 0 where
   pub order : Order
@@ -51,9 +63,7 @@ pub record Answered (words : List (List ℕ)) (source source' out out' : Device)
   pub outcome : ℕ
   pub text : List ℕ
   pub means : Means words order
-  pub read : Consumes source.bytes source'.bytes input
-  pub whole : IsAtEnd source'.bytes
-  pub short : length input ≤ MAX_INPUT_BYTES
+  pub reads : ReadsFor order source source' input
   pub comes : Outcome order input outcome text
   pub refused : outcome ≢ 0 → (status ≡ outcome) × (line ≡ text)
   pub follows : outcome ≡ 0 → (status ≡ 0) ⊎ (status ≡ 9)
@@ -72,6 +82,12 @@ pub record Reads (source source' : Device) (status : ℕ) : Type 0 where
   -- no run takes more than that byte, unless a read failed
   pub at_most : status ≢ 8 → TakesAtMost source.bytes source'.bytes (MAX_INPUT_BYTES + 1)
 
+-- what `sample` takes from its source: nothing, so that no fault of the source comes of it
+pub record ReadsNothing (source source' : Device) (status : ℕ) : Type 0 where
+  pub untouched : IsUntouched source source'
+  pub no_read_fault : status ≢ 8
+  pub not_too_long : status ≢ 7
+
 -- what a run does to `out`
 pub record Writes (out out' : Device) (status : ℕ) : Type 0 where
   -- 9 where the count of `out` rose
@@ -85,6 +101,7 @@ pub record Ran (words : List (List ℕ)) (source source' out out' : Device) (sta
   pub meant : status ≢ 2 → (order : Order) × Means words order
   pub usage : status ≡ 2 → (order : Order) → Means words order → ⊥
   pub reads : Reads source source' status
+  pub sample : (n : ℕ) → Means words (Sample n) → ReadsNothing source source' status
   -- the outcome, on every status but 2, 7, 8 and 10
   pub answered : IsAnswered status → Answered words source source' out out' status line
   pub writes : Writes out out' status

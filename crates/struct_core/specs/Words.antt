@@ -1,44 +1,100 @@
 -- Which words mean which order.
-use Rattle.std.specs.Prelude.{◌≡◌, ◌≢◌, ℕ, List, [], ◌∷◌, codes}
+use Rattle.std.specs.Prelude.{◌≡◌, ℕ, ◌≤◌, List, [], ◌∷◌, ◌++◌, Option, Some, codes, decimal}
+use Rattle.pnml_grammar.specs.Elements.{kind_named}
 use Rattle.struct_core.specs.declared.order.Task.{Task}
 use Rattle.struct_core.specs.declared.order.Task.TheVariants.{Check, Canon, Class, Places, Transitions, Siphons, Traps, Bounds, Commoner, CertBounds, CertCommoner, Verify, Live}
+use Rattle.struct_core.specs.declared.order.Budget.{Budget}
+use Rattle.struct_core.specs.declared.order.Budget.TheVariants.{Rows, Sets}
 use Rattle.struct_core.specs.declared.order.Order.{Order}
-use Rattle.struct_core.specs.declared.order.Order.TheVariants.{Run}
+use Rattle.struct_core.specs.declared.order.Order.TheVariants.{Run, Sample}
 use Rattle.struct_core.specs.declared.order.Budgets.{Budgets}
 
--- the word of a task
-abbrev pub task_word : Task → List ℕ
-task_word Check = codes "check"
-task_word Canon = codes "canon"
-task_word Class = codes "class"
-task_word Places = codes "places"
-task_word Transitions = codes "transitions"
-task_word Siphons = codes "siphons"
-task_word Traps = codes "traps"
-task_word Bounds = codes "bounds"
-task_word Commoner = codes "commoner"
-task_word CertBounds = codes "cert-bounds"
-task_word CertCommoner = codes "cert-commoner"
-task_word Verify = codes "verify"
-task_word Live = codes "live"
+-- ---- the tables
 
--- the budgets where none are said
+-- the words of the tasks, and the tasks in the same order
+unfoldable pub task_words : List (List ℕ)
+task_words =
+    codes "check" ∷ codes "canon" ∷ codes "class" ∷ codes "places" ∷ codes "transitions" ∷ codes "siphons" ∷ codes "traps"
+    ∷ codes "bounds" ∷ codes "commoner" ∷ codes "cert-bounds" ∷ codes "cert-commoner" ∷ codes "verify" ∷ codes "live" ∷ []
+
+unfoldable pub tasks : List Task
+tasks = Check ∷ Canon ∷ Class ∷ Places ∷ Transitions ∷ Siphons ∷ Traps ∷ Bounds ∷ Commoner ∷ CertBounds ∷ CertCommoner ∷ Verify ∷ Live ∷ []
+
+-- the task that has the word
+unfoldable pub task_named : List ℕ → Option Task
+task_named word = kind_named task_words tasks word
+
+-- the words of the options, and the budgets that they say, in the same order
+unfoldable pub option_words : List (List ℕ)
+option_words = codes "--rows" ∷ codes "--sets" ∷ []
+
+unfoldable pub options : List Budget
+options = Rows ∷ Sets ∷ []
+
+-- the budget whose option has the word
+unfoldable pub budget_named : List ℕ → Option Budget
+budget_named word = kind_named option_words options word
+
+-- ---- numbers
+
+-- a budget where its option is absent
+abbrev pub default_of : Budget → ℕ
+default_of Rows = 20000
+default_of Sets = 100000
+
 abbrev pub default_budgets : Budgets
-default_budgets = record { rows = 20000; sets = 100000 }
+default_budgets = record { rows = default_of Rows; sets = default_of Sets }
 
--- the words are one task's word only
+-- the most that an option may say; the least is 1
+abbrev pub most_of : Budget → ℕ
+most_of Rows = 100000
+most_of Sets = 1000000
+
+-- the decimal text of a number in a range
+pub record IsNumber (least most : ℕ) (word : List ℕ) (number : ℕ) : Type 0 where
+  pub spelled : word ≡ decimal number
+  pub low : least ≤ number
+  pub high : number ≤ most
+
+-- ---- lists of words
+
+-- no words, which mean the default, or the option's word and a number
+pub data MeansBudget (budget : Budget) : List (List ℕ) → ℕ → Type 0 where
+  by_default : MeansBudget budget [] (default_of budget)
+  by_option : (option word : List ℕ) (number : ℕ) → budget_named option ≡ Some budget → IsNumber 1 (most_of budget) word number
+      → MeansBudget budget (option ∷ word ∷ []) number
+
+-- the options of a task: first the one of rows, then the one of sets
+pub record MeanBudgets (words : List (List ℕ)) (budgets : Budgets) : Type 0 where
+  pub front : List (List ℕ)
+  pub back : List (List ℕ)
+  pub words_are : words ≡ front ++ back
+  pub rows : MeansBudget Rows front budgets.rows
+  pub sets : MeansBudget Sets back budgets.sets
+
+-- the word of a task, and its options
+pub record MeansTask (words : List (List ℕ)) (task : Task) (budgets : Budgets) : Type 0 where
+  pub word : List ℕ
+  pub others : List (List ℕ)
+  pub words_are : words ≡ word ∷ others
+  pub named : task_named word ≡ Some task
+  pub said : MeanBudgets others budgets
+
+-- `sample` and a number
+pub record MeansSample (words : List (List ℕ)) (n : ℕ) : Type 0 where
+  pub word : List ℕ
+  pub words_are : words ≡ codes "sample" ∷ word ∷ []
+  pub number : IsNumber 2 200 word n
+
 abbrev pub Means : List (List ℕ) → Order → Type 0
-Means words order = (task : Task) × (words ≡ task_word task ∷ []) × (order ≡ Run task default_budgets)
+Means words (Run task budgets) = MeansTask words task budgets
+Means words (Sample n) = MeansSample words n
 
--- the word of no task that makes or checks a certificate
-abbrev pub IsNoCertificate : List ℕ → Type 0
-IsNoCertificate word = (word ≢ task_word CertBounds) × (word ≢ task_word CertCommoner) × (word ≢ task_word Verify)
+-- a sample net can have so many philosophers
+abbrev pub IsInRange : Order → Type 0
+IsInRange (Run _ _) = Unit
+IsInRange (Sample n) = (2 ≤ n) × (n ≤ 200)
 
--- the word of no task that tells how many tokens there can be and whether they get stuck, nor of one above
-abbrev pub IsNoVerdict : List ℕ → Type 0
-IsNoVerdict word = (word ≢ task_word Bounds) × (word ≢ task_word Commoner) × (word ≢ task_word Live) × IsNoCertificate word
-
--- the word of no task that works on the net's lists
-abbrev pub IsNoEnumeration : List ℕ → Type 0
-IsNoEnumeration word =
-    (word ≢ task_word Places) × (word ≢ task_word Transitions) × (word ≢ task_word Siphons) × (word ≢ task_word Traps) × IsNoVerdict word
+-- a list of words has at most one meaning
+abbrev pub HasOneMeaning : Type 0
+HasOneMeaning = (words : List (List ℕ)) (one other : Order) → Means words one → Means words other → one ≡ other

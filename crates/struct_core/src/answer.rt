@@ -5,7 +5,7 @@ ghost use Rattle.struct_core.specs.Answers.{FailsWith};
 
 use crate::certified::{bounds_certified, verdict_certified};
 use crate::inputs::split;
-use crate::order::{Budgets, Order, Task};
+use crate::order::{Budgets, Task};
 use crate::place_bounds::bound_report;
 use crate::semiflows::semiflow_report;
 use crate::siphons::{siphon_report, trap_report};
@@ -19,30 +19,19 @@ use pnml_write::canonical;
 use report::{Refusal, check_text, class_text};
 use std::alloc::Global;
 
-/// The text of an order for an input.
-pub(crate) fn answer(alloc: Global, order: Order, bytes: &[u8]) -> Result<Text, Refusal>
-    ensures text { IfOk result (Outcome order bytes.now 0) }
-    ensures refused { IfErr result (FailsWith (Outcome order bytes.now)) }
-{
-    match order {
-        Order::Run(task, budgets) => answer_task(alloc, task, budgets, bytes),
-    }
-}
-
 /// The text of a task for an input.
-fn answer_task(alloc: Global, task: Task, budgets: Budgets, bytes: &[u8]) -> Result<Text, Refusal>
+pub(crate) fn answer(
+    alloc: Global,
+    task: Task,
+    budgets: Budgets,
+    bytes: &[u8],
+) -> Result<Text, Refusal>
     ensures text { IfOk result (Outcome (Ordered.Run task budgets) bytes.now 0) }
     ensures refused { IfErr result (FailsWith (Outcome (Ordered.Run task budgets) bytes.now)) }
 {
     let (front, rest) = split(task, bytes);
-    let document = match decode(alloc, front) {
-        Ok(document) => document,
-        Err(fault) => return Err(Refusal::Document(fault)),
-    };
-    let net = match flatten(alloc, &document) {
-        Ok(net) => net,
-        Err(fault) => return Err(Refusal::Rule(fault)),
-    };
+    let document = decode(alloc, front)?;
+    let net = flatten(alloc, &document)?;
     text_of(alloc, task, budgets, &document, &net, rest)
 }
 

@@ -1,6 +1,7 @@
 ghost use Rattle.struct_core.specs.Completeness.{QuietRunsComplete};
 ghost use Rattle.struct_core.specs.Determined.{HasOneOutcome, HasSomeOutcome};
-ghost use Rattle.struct_core.specs.Laws.{PrintSemiflows, PrintClosedSets, PrintBoundsThatHold, PrintLeastBounds, ProvedNetsNeverDie, ProvedNetsLive, AcceptedCertificatesAreTrue, MadeCertificatesAreAccepted, CanonStays};
+ghost use Rattle.struct_core.specs.Laws.{PrintSemiflows, PrintClosedSets, PrintBoundsThatHold, PrintLeastBounds, ProvedNetsNeverDie, ProvedNetsLive, AcceptedCertificatesAreTrue, MadeCertificatesAreAccepted, CanonStays, SamplesAreInTheProfile};
+ghost use Rattle.struct_core.specs.Words.{HasOneMeaning};
 
 /// Every vector that `places` and `transitions` print is a semiflow (Colom and Silva 1991).
 pub fn printed_vectors_are_semiflows()
@@ -66,4 +67,14 @@ pub fn some_outcome()
 /// `verify` with a certificate that the net accepts, writes the defined text, or memory was refused.
 pub fn quiet_runs_complete()
     ensures { QuietRunsComplete }
+{}
+
+/// A list of words has at most one meaning.
+pub fn one_meaning()
+    ensures { HasOneMeaning }
+{}
+
+/// The canonical text of each sample net spells it, and the net breaks no rule.
+pub fn samples_are_in_the_profile()
+    ensures { SamplesAreInTheProfile }
 {}

@@ -6,20 +6,25 @@ mod certified;
 mod inputs;
 mod laws;
 mod order;
+mod philosophers;
 mod place_bounds;
 mod running;
+mod sample;
 mod semiflows;
 mod siphons;
+mod tables;
 mod verdicts;
 mod verified;
 mod words;
 
 pub use laws::{
     accepted_certificates_are_true, canonical_text_stays, deadlock_free_is_proved,
-    made_certificates_are_accepted, one_outcome, printed_bounds_are_least, printed_bounds_hold,
-    printed_sets_are_closed, printed_vectors_are_semiflows, proved_nets_are_live,
-    quiet_runs_complete, some_outcome,
+    made_certificates_are_accepted, one_meaning, one_outcome, printed_bounds_are_least,
+    printed_bounds_hold, printed_sets_are_closed, printed_vectors_are_semiflows,
+    proved_nets_are_live, quiet_runs_complete, samples_are_in_the_profile, some_outcome,
 };
-pub use order::{Budgets, Order, Task};
+pub use order::{Budget, Budgets, Order, Task};
+pub use philosophers::sample_net;
 pub use running::run;
+pub use tables::{OPTIONS, TASKS, option_words, task_words};
 pub use words::{Words, read_words};

@@ -1,4 +1,10 @@
-/// What a run is to compute of a net.
+ghost use Rattle.std.specs.Prelude.{◌≡◌};
+ghost use Rattle.struct_core.specs.Words.{default_budgets as the_default_budgets};
+
+use crate::tables::{OPTIONS, TASKS};
+use pnml_grammar::find_in;
+
+/// What a run is to compute of a net, in the order of [`TASKS`](crate::TASKS).
 #[derive(Clone, Copy, Debug, PartialEq, Eq)]
 pub enum Task {
     /// The numbers of places, transitions and arcs.
@@ -29,6 +35,79 @@ pub enum Task {
     Live,
 }
 
+const TASK_ORDER: [Task; 13] = [
+    Task::Check,
+    Task::Canon,
+    Task::Class,
+    Task::Places,
+    Task::Transitions,
+    Task::Siphons,
+    Task::Traps,
+    Task::Bounds,
+    Task::Commoner,
+    Task::CertBounds,
+    Task::CertCommoner,
+    Task::Verify,
+    Task::Live,
+];
+
+impl Task {
+    ghost use Rattle.struct_core.specs.Words.{task_named};
+
+    /// The task that has this word.
+    #[tactic(auto, unfolding(crate::specs::Words::task_named, crate::specs::Words::task_words, crate::specs::Words::tasks))]
+    pub fn named(word: &[u8]) -> Option<Task>
+        ensures { result ≡ task_named word.now }
+    {
+        let row = find_in(&TASKS.names, word)?;
+        TASK_ORDER.get(row).copied()
+    }
+}
+
+/// What an enumeration may take, by the option that says how much, in the order of [`OPTIONS`](crate::OPTIONS).
+#[derive(Clone, Copy, Debug, PartialEq, Eq)]
+pub enum Budget {
+    /// Candidate rows of one elimination step.
+    Rows,
+    /// Siphons or traps that a search meets.
+    Sets,
+}
+
+const BUDGET_ORDER: [Budget; 2] = [Budget::Rows, Budget::Sets];
+
+impl Budget {
+    ghost use Rattle.struct_core.specs.Words.{budget_named, default_of, most_of};
+
+    /// The budget whose option has this word.
+    #[tactic(auto, unfolding(crate::specs::Words::budget_named, crate::specs::Words::option_words, crate::specs::Words::options))]
+    pub fn named(word: &[u8]) -> Option<Budget>
+        ensures { result ≡ budget_named word.now }
+    {
+        let row = find_in(&OPTIONS.names, word)?;
+        BUDGET_ORDER.get(row).copied()
+    }
+
+    /// The budget where its option is absent.
+    pub fn default(self) -> u32
+        ensures { result ≡ default_of self }
+    {
+        match self {
+            Budget::Rows => 20_000,
+            Budget::Sets => 100_000,
+        }
+    }
+
+    /// The most that its option may say.
+    pub fn most(self) -> u32
+        ensures { result ≡ most_of self }
+    {
+        match self {
+            Budget::Rows => 100_000,
+            Budget::Sets => 1_000_000,
+        }
+    }
+}
+
 /// How much the enumerations may take.
 #[derive(Clone, Copy, Debug, PartialEq, Eq)]
 pub struct Budgets {
@@ -38,9 +117,21 @@ pub struct Budgets {
     pub sets: u32,
 }
 
+/// The budgets where no option is there.
+pub(crate) fn default_budgets() -> Budgets
+    ensures { result ≡ the_default_budgets }
+{
+    Budgets {
+        rows: Budget::Rows.default(),
+        sets: Budget::Sets.default(),
+    }
+}
+
 /// What the words of the command line mean.
 #[derive(Clone, Copy, Debug, PartialEq, Eq)]
 pub enum Order {
     /// A task on the document of the input.
     Run(Task, Budgets),
+    /// A summary of the sample net of so many philosophers.
+    Sample(u32),
 }

@@ -1,16 +1,36 @@
 ghost use Rattle.struct_core.specs.Run.{device, Ran, HasRun};
 ghost use Rattle.struct_core.specs.Answers.{status_after, line_after};
-ghost use Rattle.struct_core.specs.Words.{Means};
+ghost use Rattle.std.specs.Prelude.{IfOk, IfErr};
+ghost use Rattle.struct_core.specs.Words.{IsInRange, Means};
+ghost use Rattle.struct_core.specs.Obtaining.{HasText, EndsBy};
 
 use crate::answer::answer;
 use crate::order::Order;
+use crate::sample::sample_report;
 use crate::words::{Words, read_words};
-use net_values::MAX_INPUT_BYTES;
-use pnml_source::{ReadAllFault, Sink, Source, read_all, write_all};
+use net_values::{MAX_INPUT_BYTES, Text};
+use pnml_source::{Sink, Source, read_all, write_all};
 use report::{Refusal, status, tell};
 use std::alloc::Global;
 
-/// Reads the whole input, and writes the order's text for it.
+/// The text of an order: of a task for the whole input, and of `sample` without reading.
+fn obtain<S: Source>(alloc: Global, order: Order, source: &mut S) -> Result<Text, Refusal>
+    requires { IsInRange order }
+    ensures text { IfOk result
+        (HasText order (device (S.left source.old) (S.faults source.old)) (device (S.left source.new) (S.faults source.new))) }
+    ensures refused { IfErr result
+        (EndsBy order (device (S.left source.old) (S.faults source.old)) (device (S.left source.new) (S.faults source.new))) }
+{
+    match order {
+        Order::Run(task, budgets) => {
+            let bytes = read_all(alloc, source, MAX_INPUT_BYTES)?;
+            answer(alloc, task, budgets, bytes.as_slice())
+        }
+        Order::Sample(n) => sample_report(alloc, n),
+    }
+}
+
+/// Writes the text of an order.
 fn work<S: Source, O: Sink>(
     alloc: Global,
     words: &Words,
@@ -22,17 +42,8 @@ fn work<S: Source, O: Sink>(
     ensures { Ran words.now (device (S.left source.old) (S.faults source.old)) (device (S.left source.new) (S.faults source.new))
         (device (O.held out.old) (O.faults out.old)) (device (O.held out.new) (O.faults out.new)) (status_after result) (line_after result) }
 {
-    let bytes = match read_all(alloc, source, MAX_INPUT_BYTES) {
-        Ok(bytes) => bytes,
-        Err(ReadAllFault::ReadFault) => return Err(Refusal::ReadFault),
-        Err(ReadAllFault::TooLong) => return Err(Refusal::TooLong),
-        Err(ReadAllFault::NoMemory) => return Err(Refusal::NoMemory),
-    };
-    let text = answer(alloc, order, bytes.as_slice())?;
-    match write_all(out, text.as_bytes()) {
-        Ok(()) => Ok(()),
-        Err(_) => Err(Refusal::WriteFault),
-    }
+    let text = obtain(alloc, order, source)?;
+    Ok(write_all(out, text.as_bytes())?)
 }
 
 /// The same for words, where they mean an order.

@@ -1,129 +1,102 @@
-ghost use Rattle.std.specs.Prelude.{◌≡◌, ◌∷◌, [], ℕ, List as Listed, IfSome, IfNone};
+ghost use Rattle.std.specs.Prelude.{◌≡◌, ◌↔◌, ◌∷◌, ℕ, None, Some, IsTrue, IfSome, IfNone};
+ghost use Rattle.struct_core.specs.declared.order.Budgets.{Budgets as Allowed};
 ghost use Rattle.struct_core.specs.declared.order.Order.{Order as Meaning};
-ghost use Rattle.struct_core.specs.declared.order.Task.{Task as Meant};
-ghost use Rattle.struct_core.specs.Words.{Means, task_word, IsNoEnumeration, IsNoVerdict, IsNoCertificate};
+ghost use Rattle.struct_core.specs.Words.{IsNumber, MeanBudgets, Means, budget_named, task_named};
+ghost use Rattle.struct_core.specs.WordReading.{TakesBudget, HasBadNumber};
 
-use crate::order::{Budgets, Order, Task};
-use net_values::{List, Text};
+use crate::order::{Budget, Budgets, Order, Task};
+use net_values::{List, Text, read_decimal};
 
 /// The words after the program's name.
 pub type Words = List<Text>;
 
-const CHECK: &[u8] = b"check";
-
-const CANON: &[u8] = b"canon";
-
-const CLASS: &[u8] = b"class";
-
-const PLACES: &[u8] = b"places";
-
-const TRANSITIONS: &[u8] = b"transitions";
-
-const SIPHONS: &[u8] = b"siphons";
-
-const TRAPS: &[u8] = b"traps";
-
-const BOUNDS: &[u8] = b"bounds";
-
-const COMMONER: &[u8] = b"commoner";
-
-const CERT_BOUNDS: &[u8] = b"cert-bounds";
-
-const CERT_COMMONER: &[u8] = b"cert-commoner";
-
-const VERIFY: &[u8] = b"verify";
-
-const LIVE: &[u8] = b"live";
-
-const DEFAULT_BUDGETS: Budgets = Budgets {
-    rows: 20_000,
-    sets: 100_000,
-};
-
-/// The word, where there is one only.
-fn only_word(words: &Words) -> Option<&Text>
-    ensures found { IfSome result (λ word. words.now ≡ word.now ∷ []) }
-    ensures none { IfNone result ((word : Listed ℕ) → words.now ≡ word ∷ [] → ⊥) }
-{
-    if words.len() == 1 {
-        Some(words.get(0))
-    } else {
-        None
-    }
-}
-
-/// The task that has this word.
-fn task_of(word: &[u8]) -> Option<Task>
-    ensures found { IfSome result (λ task. word.now ≡ task_word task) }
-    ensures none { IfNone result ((task : Meant) → word.now ≡ task_word task → ⊥) }
-{
-    if word == CHECK {
-        Some(Task::Check)
-    } else if word == CANON {
-        Some(Task::Canon)
-    } else if word == CLASS {
-        Some(Task::Class)
-    } else {
-        enumeration_of(word)
-    }
-}
-
-/// The task that works on the net's lists, by its word.
-fn enumeration_of(word: &[u8]) -> Option<Task>
-    ensures found { IfSome result (λ task. word.now ≡ task_word task) }
-    ensures none { IfNone result (IsNoEnumeration word.now) }
-{
-    if word == PLACES {
-        Some(Task::Places)
-    } else if word == TRANSITIONS {
-        Some(Task::Transitions)
-    } else if word == SIPHONS {
-        Some(Task::Siphons)
-    } else if word == TRAPS {
-        Some(Task::Traps)
-    } else {
-        verdict_of(word)
-    }
-}
-
-/// The task that tells how many tokens there can be or whether they get stuck, by its word.
-fn verdict_of(word: &[u8]) -> Option<Task>
-    ensures found { IfSome result (λ task. word.now ≡ task_word task) }
-    ensures none { IfNone result (IsNoVerdict word.now) }
-{
-    if word == BOUNDS {
-        Some(Task::Bounds)
-    } else if word == COMMONER {
-        Some(Task::Commoner)
-    } else if word == LIVE {
-        Some(Task::Live)
-    } else {
-        certificate_of(word)
-    }
-}
-
-/// The task that makes or checks a certificate, by its word.
-fn certificate_of(word: &[u8]) -> Option<Task>
-    ensures found { IfSome result (λ task. word.now ≡ task_word task) }
-    ensures none { IfNone result (IsNoCertificate word.now) }
-{
-    if word == CERT_BOUNDS {
-        Some(Task::CertBounds)
-    } else if word == CERT_COMMONER {
-        Some(Task::CertCommoner)
-    } else if word == VERIFY {
-        Some(Task::Verify)
-    } else {
-        None
-    }
-}
+const SAMPLE: &[u8] = b"sample";
 
 /// The order that the words mean, or `None` where they mean nothing. It takes no memory.
 pub fn read_words(words: &Words) -> Option<Order>
     ensures meant { IfSome result (λ order. Means words.now order) }
     ensures none { IfNone result ((order : Meaning) → Means words.now order → ⊥) }
 {
-    let word = only_word(words)?;
-    let task = task_of(word.as_bytes())?;
-    Some(Order::Run(task, DEFAULT_BUDGETS))
+    match words.as_slice() {
+        [word, rest @ ..] => read_order(word.as_bytes(), rest),
+        [] => None,
+    }
+}
+
+/// The order of a first word and the words after it.
+fn read_order(word: &[u8], rest: &[Text]) -> Option<Order>
+    ensures meant { IfSome result (λ order. Means (word.now ∷ rest.now) order) }
+    ensures none { IfNone result ((order : Meaning) → Means (word.now ∷ rest.now) order → ⊥) }
+{
+    match Task::named(word) {
+        Some(task) => Some(Order::Run(task, read_budgets(rest)?)),
+        None => read_sample(word, rest),
+    }
+}
+
+/// The order of a first word that is no task's.
+fn read_sample(word: &[u8], rest: &[Text]) -> Option<Order>
+    requires { task_named word.now ≡ None }
+    ensures meant { IfSome result (λ order. Means (word.now ∷ rest.now) order) }
+    ensures none { IfNone result ((order : Meaning) → Means (word.now ∷ rest.now) order → ⊥) }
+{
+    match rest {
+        [number] if word == SAMPLE => Some(Order::Sample(read_number(number.as_bytes(), 2, 200)?)),
+        _ => None,
+    }
+}
+
+/// The budgets that the options of a task say.
+fn read_budgets(words: &[Text]) -> Option<Budgets>
+    ensures meant { IfSome result (λ budgets. MeanBudgets words.now budgets) }
+    ensures none { IfNone result ((budgets : Allowed) → MeanBudgets words.now budgets → ⊥) }
+{
+    let (rows, others) = read_budget(Budget::Rows, words)?;
+    let (sets, rest) = read_budget(Budget::Sets, others)?;
+    if rest.is_empty() {
+        Some(Budgets { rows, sets })
+    } else {
+        None
+    }
+}
+
+/// The budget that its option says at the front of the words, or its default where the option isn't there; and
+/// the words after it.
+fn read_budget<'w>(budget: Budget, words: &'w [Text]) -> Option<(u32, &'w [Text])>
+    ensures taken { IfSome result (λ taken. TakesBudget budget words.now taken.0 taken.1.now) }
+    ensures none { IfNone result (HasBadNumber budget words.now) }
+{
+    match words {
+        [option, number, rest @ ..] => {
+            if is_option(option.as_bytes(), budget) {
+                Some((read_number(number.as_bytes(), 1, budget.most())?, rest))
+            } else {
+                Some((budget.default(), words))
+            }
+        }
+        _ => Some((budget.default(), words)),
+    }
+}
+
+/// Whether the word is that of the budget's option.
+fn is_option(word: &[u8], budget: Budget) -> bool
+    ensures { IsTrue result ↔ (budget_named word.now ≡ Some budget) }
+{
+    match Budget::named(word) {
+        Some(named) => named == budget,
+        None => false,
+    }
+}
+
+/// The number from `least` to `most` whose decimal text the word is.
+fn read_number(word: &[u8], least: u32, most: u32) -> Option<u32>
+    ensures found { IfSome result (λ number. IsNumber least most word.now number) }
+    ensures none { IfNone result ((number : ℕ) → IsNumber least most word.now number → ⊥) }
+{
+    let number = read_decimal(word)?;
+    if u128::from(least) <= number && number <= u128::from(most) {
+        Some(number as u32)
+    } else {
+        None
+    }
 }

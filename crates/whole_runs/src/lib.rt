@@ -21,6 +21,8 @@ mod flattening;
 #[cfg(test)]
 mod nets;
 #[cfg(test)]
+mod options;
+#[cfg(test)]
 mod semiflows;
 #[cfg(test)]
 mod siphons_and_traps;

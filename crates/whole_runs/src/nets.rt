@@ -98,6 +98,59 @@ pub const DIVIDED: Net = Net {
     ]],
 };
 
+/// A transition that takes a token from each of ten places and gives one to each of ten others.
+pub const FAN: Net = Net {
+    places: &[
+        ("i0", 0),
+        ("i1", 0),
+        ("i2", 0),
+        ("i3", 0),
+        ("i4", 0),
+        ("i5", 0),
+        ("i6", 0),
+        ("i7", 0),
+        ("i8", 0),
+        ("i9", 0),
+        ("o0", 0),
+        ("o1", 0),
+        ("o2", 0),
+        ("o3", 0),
+        ("o4", 0),
+        ("o5", 0),
+        ("o6", 0),
+        ("o7", 0),
+        ("o8", 0),
+        ("o9", 0),
+    ],
+    transitions: &["t"],
+    arcs: &[
+        &[
+            ("i0", "t", 1),
+            ("i1", "t", 1),
+            ("i2", "t", 1),
+            ("i3", "t", 1),
+            ("i4", "t", 1),
+            ("i5", "t", 1),
+            ("i6", "t", 1),
+            ("i7", "t", 1),
+            ("i8", "t", 1),
+            ("i9", "t", 1),
+        ],
+        &[
+            ("t", "o0", 1),
+            ("t", "o1", 1),
+            ("t", "o2", 1),
+            ("t", "o3", 1),
+            ("t", "o4", 1),
+            ("t", "o5", 1),
+            ("t", "o6", 1),
+            ("t", "o7", 1),
+            ("t", "o8", 1),
+            ("t", "o9", 1),
+        ],
+    ],
+};
+
 pub const LINE: Net = Net {
     places: &[("p", 1), ("q", 0)],
     transitions: &["t"],

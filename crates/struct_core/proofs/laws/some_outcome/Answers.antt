@@ -1,4 +1,4 @@
-use Rattle.struct_core.proofs.SomeOutcome as outcomes
+use Rattle.struct_core.proofs.SomeSample as outcomes
 use Rattle.struct_core.proofs.laws.some_outcome.Goals as goal
 
 pub returns : goal.returns

@@ -1,7 +1,7 @@
 -- The text of the bounds, or the first wide semiflow, or the step that fails.
 use Rattle.net_values.specs.FlatNets.{net_of}
 use Rattle.net_values.specs.Nodes.{place_id, transition_id}
-use Rattle.struct_core.proofs.Judging.{bounds_told, wide_refused, bounds_refused}
+use Rattle.struct_core.proofs.Judging.{bounds_told, bounds_refused, wide_refused}
 use Rattle.struct_core.proofs.place_bounds.bound_report.Goals as goal
 
 pub returns-in_err-rows-clause-refused : goal.returns-in_err-rows-clause-refused

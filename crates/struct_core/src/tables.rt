@@ -1,0 +1,46 @@
+ghost use Rattle.std.specs.Prelude.{◌≡◌, map};
+ghost use Rattle.struct_core.specs.Words.{task_words as the_task_words, option_words as the_option_words};
+
+use pnml_grammar::Names;
+
+/// The words of the tasks, in the order of [`Task`](crate::Task).
+pub const TASKS: Names<13> = Names {
+    names: [
+        b"check",
+        b"canon",
+        b"class",
+        b"places",
+        b"transitions",
+        b"siphons",
+        b"traps",
+        b"bounds",
+        b"commoner",
+        b"cert-bounds",
+        b"cert-commoner",
+        b"verify",
+        b"live",
+    ],
+};
+
+/// The words of the options, in the order of [`Budget`](crate::Budget).
+pub const OPTIONS: Names<2> = Names {
+    names: [b"--rows", b"--sets"],
+};
+
+/// The words of the tasks in table order.
+#[tactic(auto, unfolding(crate::specs::Words::task_words))]
+pub fn task_words() -> [&'static [u8]; 13]
+    ensures { map (λ word. word.now) result ≡ the_task_words }
+{
+    let Names { names } = TASKS;
+    names
+}
+
+/// The words of the options in table order.
+#[tactic(auto, unfolding(crate::specs::Words::option_words))]
+pub fn option_words() -> [&'static [u8]; 2]
+    ensures { map (λ word. word.now) result ≡ the_option_words }
+{
+    let Names { names } = OPTIONS;
+    names
+}
