@@ -12,7 +12,6 @@ use Rattle.siphon_branch.specs.Limits.{HaveAtMost, CarriesMore}
 use Rattle.report.specs.Texts.{semiflows_text, sets_text}
 use Rattle.report.specs.FaultLines.{wide_sum_line, wide_row_line, budget_line}
 use Rattle.struct_core.specs.Enumerations.{AreListed, FailedStep, wide_sum, wide_row, row_budget, SemiflowOutcome, all_semiflows, step_fails, PassedLimit, set_limit, SetOutcome, all_sets, passes_limit}
-use Rattle.struct_core.specs.Outcome.{answer}
 use Rattle.net_values.proofs.OneList.{one_list_of_vectors, one_list_of_sets}
 use Rattle.semiflow_elim.proofs.OneFailure.{first_failures_are_one, failures_exclude_passing}
 

@@ -1,5 +1,5 @@
 -- A property of every item of the sample net, from one of its places, transitions and arcs.
-use Rattle.std.proofs.Common.{◌≡◌, ℕ, zero, suc, ◌+◌, ◌*◌, ◌%◌, ◌<◌, ◌≤◌, List, [], ◌∷◌, ◌++◌, None, map, refl, subst, sym, arith}
+use Rattle.std.proofs.Common.{ℕ, zero, suc, ◌+◌, ◌*◌, ◌%◌, ◌<◌, List, [], ◌∷◌, ◌++◌, None, map, arith}
 use Rattle.std.specs.Prelude.{codes}
 use Rattle.std.specs.List.{flat_map, range_with_len, AllByRecursion}
 use Rattle.std.proofs.Math.Nat.{mod-lt}
@@ -44,15 +44,31 @@ module _ (n : ℕ) (Q : Item → Type 0) (P T : List ℕ → Type 0) (nodes : No
   each_arc : (i : ℕ) → i < n → AllByRecursion Q (arcs_of n i)
   each_arc i below =
       let j = (i + 1) % n in
-      let next : j < n = mod-lt (i + 1) (omega (arith, below)) in
-      (to (8 * i) _ _ (omega (arith, below)) (nodes.think i below) (nodes.take i below), (
-      to (8 * i + 1) _ _ (omega (arith, below)) (nodes.fork i below) (nodes.take i below), (
-      to (8 * i + 2) _ _ (omega (arith, below)) (nodes.fork j next) (nodes.take i below), (
-      from (8 * i + 3) _ _ (omega (arith, below)) (nodes.take i below) (nodes.eat i below), (
-      to (8 * i + 4) _ _ (omega (arith, below)) (nodes.eat i below) (nodes.release i below), (
-      from (8 * i + 5) _ _ (omega (arith, below)) (nodes.release i below) (nodes.think i below), (
-      from (8 * i + 6) _ _ (omega (arith, below)) (nodes.release i below) (nodes.fork i below), (
-      from (8 * i + 7) _ _ (omega (arith, below)) (nodes.release i below) (nodes.fork j next), tt))))))))
+      let next : j < n = mod-lt (i + 1) (omega (arith, below)) in (
+        to (8 * i) _ _ (omega (arith, below)) (nodes.think i below) (nodes.take i below),
+        (
+          to (8 * i + 1) _ _ (omega (arith, below)) (nodes.fork i below) (nodes.take i below),
+          (
+            to (8 * i + 2) _ _ (omega (arith, below)) (nodes.fork j next) (nodes.take i below),
+            (
+              from (8 * i + 3) _ _ (omega (arith, below)) (nodes.take i below) (nodes.eat i below),
+              (
+                to (8 * i + 4) _ _ (omega (arith, below)) (nodes.eat i below) (nodes.release i below),
+                (
+                  from (8 * i + 5) _ _ (omega (arith, below)) (nodes.release i below) (nodes.think i below),
+                  (
+                    from (8 * i + 6) _ _ (omega (arith, below)) (nodes.release i below) (nodes.fork i below),
+                    (
+                      from (8 * i + 7) _ _ (omega (arith, below)) (nodes.release i below) (nodes.fork j next),
+                      tt,
+                    ),
+                  ),
+                ),
+              ),
+            ),
+          ),
+        ),
+      )
 
   pub every_item : Q (Page record { id = codes "page"; name = None }) → Q PageEnd
       → ((i : ℕ) → i < n → Q (place (codes "think") 1 i) × Q (place (codes "fork") 1 i) × Q (place (codes "eat") 0 i))
@@ -60,8 +76,8 @@ module _ (n : ℕ) (Q : Item → Type 0) (P T : List ℕ → Type 0) (nodes : No
   every_item page end places transitions = (
     page,
     all_both Q _ _ (all_numbers Q (place (codes "think") 1) 0 n (λ i below. (places i (omega (arith, below))).0))
-    (all_both Q _ _ (all_numbers Q (place (codes "fork") 1) 0 n (λ i below. (places i (omega (arith, below))).1))
-    (all_both Q _ _ (all_numbers Q (place (codes "eat") 0) 0 n (λ i below. (places i (omega (arith, below))).2))
-    (all_both Q _ _ (all_lists Q transitions_of 0 n (λ i below. let both = transitions i (omega (arith, below)) in (both.0, (both.1, tt))))
-    (all_both Q _ (PageEnd ∷ []) (all_lists Q (arcs_of n) 0 n (λ i below. each_arc i (omega (arith, below)))) (end, tt))))),
+        (all_both Q _ _ (all_numbers Q (place (codes "fork") 1) 0 n (λ i below. (places i (omega (arith, below))).1))
+        (all_both Q _ _ (all_numbers Q (place (codes "eat") 0) 0 n (λ i below. (places i (omega (arith, below))).2))
+        (all_both Q _ _ (all_lists Q transitions_of 0 n (λ i below. let both = transitions i (omega (arith, below)) in (both.0, (both.1, tt))))
+        (all_both Q _ (PageEnd ∷ []) (all_lists Q (arcs_of n) 0 n (λ i below. each_arc i (omega (arith, below)))) (end, tt))))),
   )

@@ -17,7 +17,12 @@ use report::{Refusal, check_text, class_text};
 use std::alloc::Global;
 
 /// The text of a task for an input.
-pub(crate) fn answer(alloc: Global, task: Task, budgets: Budgets, bytes: &[u8]) -> Result<Text, Refusal>
+pub(crate) fn answer(
+    alloc: Global,
+    task: Task,
+    budgets: Budgets,
+    bytes: &[u8],
+) -> Result<Text, Refusal>
     ensures text { IfOk result (Outcome (Ordered.Run task budgets) bytes.now 0) }
     ensures refused { IfErr result (FailsWith (Outcome (Ordered.Run task budgets) bytes.now)) }
 {

@@ -21,7 +21,7 @@ pub use laws::{
     samples_are_in_the_profile, some_outcome,
 };
 pub use order::{Budget, Budgets, Order, Task};
-pub use running::run;
 pub use philosophers::sample_net;
+pub use running::run;
 pub use tables::{OPTIONS, TASKS, option_words, task_words};
 pub use words::{Words, read_words};

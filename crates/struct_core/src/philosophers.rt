@@ -2,7 +2,9 @@ ghost use Rattle.std.specs.Prelude.{◌≡◌, ◌≤◌, ◌<◌, ◌++◌, ◌
 ghost use Rattle.std.specs.List.{flat_map, range_with_len};
 ghost use Rattle.struct_core.specs.Sample.{numbered, place, transition, transitions_of, arc, takes, releases, arcs_of, sample_document};
 
-use net_values::{ArcNode, Document, Item, Items, NetTree, NoMemory, PageNode, PlaceNode, Text, TransitionNode};
+use net_values::{
+    ArcNode, Document, Item, Items, NetTree, NoMemory, PageNode, PlaceNode, Text, TransitionNode,
+};
 use std::alloc::Global;
 
 /// The net of `n` philosophers around a table, from 2 to 200, who think, take the two forks beside them, eat, and
@@ -102,10 +104,34 @@ fn push_takes(items: &mut Items, alloc: Global, i: u32, j: u32) -> Result<(), No
     requires { i < 200 }
     ensures { OnOk result (items.new ≡ items.old ++ takes i j) }
 {
-    push_arc(items, alloc, 8 * i, numbered(alloc, "think", i)?, numbered(alloc, "take", i)?)?;
-    push_arc(items, alloc, 8 * i + 1, numbered(alloc, "fork", i)?, numbered(alloc, "take", i)?)?;
-    push_arc(items, alloc, 8 * i + 2, numbered(alloc, "fork", j)?, numbered(alloc, "take", i)?)?;
-    push_arc(items, alloc, 8 * i + 3, numbered(alloc, "take", i)?, numbered(alloc, "eat", i)?)
+    push_arc(
+        items,
+        alloc,
+        8 * i,
+        numbered(alloc, "think", i)?,
+        numbered(alloc, "take", i)?,
+    )?;
+    push_arc(
+        items,
+        alloc,
+        8 * i + 1,
+        numbered(alloc, "fork", i)?,
+        numbered(alloc, "take", i)?,
+    )?;
+    push_arc(
+        items,
+        alloc,
+        8 * i + 2,
+        numbered(alloc, "fork", j)?,
+        numbered(alloc, "take", i)?,
+    )?;
+    push_arc(
+        items,
+        alloc,
+        8 * i + 3,
+        numbered(alloc, "take", i)?,
+        numbered(alloc, "eat", i)?,
+    )
 }
 
 /// Appends the arcs by which the philosopher releases them and thinks.
@@ -113,10 +139,34 @@ fn push_releases(items: &mut Items, alloc: Global, i: u32, j: u32) -> Result<(),
     requires { i < 200 }
     ensures { OnOk result (items.new ≡ items.old ++ releases i j) }
 {
-    push_arc(items, alloc, 8 * i + 4, numbered(alloc, "eat", i)?, numbered(alloc, "release", i)?)?;
-    push_arc(items, alloc, 8 * i + 5, numbered(alloc, "release", i)?, numbered(alloc, "think", i)?)?;
-    push_arc(items, alloc, 8 * i + 6, numbered(alloc, "release", i)?, numbered(alloc, "fork", i)?)?;
-    push_arc(items, alloc, 8 * i + 7, numbered(alloc, "release", i)?, numbered(alloc, "fork", j)?)
+    push_arc(
+        items,
+        alloc,
+        8 * i + 4,
+        numbered(alloc, "eat", i)?,
+        numbered(alloc, "release", i)?,
+    )?;
+    push_arc(
+        items,
+        alloc,
+        8 * i + 5,
+        numbered(alloc, "release", i)?,
+        numbered(alloc, "think", i)?,
+    )?;
+    push_arc(
+        items,
+        alloc,
+        8 * i + 6,
+        numbered(alloc, "release", i)?,
+        numbered(alloc, "fork", i)?,
+    )?;
+    push_arc(
+        items,
+        alloc,
+        8 * i + 7,
+        numbered(alloc, "release", i)?,
+        numbered(alloc, "fork", j)?,
+    )
 }
 
 /// Appends an arc by its number and its ends.

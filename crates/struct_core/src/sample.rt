@@ -7,8 +7,8 @@ ghost use Rattle.struct_core.specs.Outcome.{Outcome, SampleOutcome, sample_tasks
 ghost use Rattle.struct_core.specs.Summaries.{is_yes, HasGreatest, IsGreater};
 
 use crate::order::default_budgets;
-use crate::place_bounds::list_bounds;
 use crate::philosophers::sample_net;
+use crate::place_bounds::list_bounds;
 use crate::semiflows::list_semiflows;
 use crate::siphons::list_siphons;
 use bounds::Bounds;
