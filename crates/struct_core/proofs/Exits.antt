@@ -15,10 +15,10 @@ use Rattle.struct_core.specs.declared.order.Order.TheVariants.{Run, Sample}
 use Rattle.report.specs.declared.refusal.Refusal.{Refusal}
 use Rattle.report.specs.Refusals.{status_of, line_of, reading_refusal}
 use Rattle.struct_core.specs.Answers.{IsMemory, IsTold, FailsWith, status_after, line_after}
-use Rattle.struct_core.specs.Words.{Means, IsInRange}
+use Rattle.struct_core.specs.Words.{Means}
 use Rattle.report.specs.FaultLines.{usage_line, length_line, read_line, write_line, memory_line}
 use Rattle.struct_core.specs.Outcome.{Outcome}
-use Rattle.struct_core.specs.Run.{Device, IsUntouched, HasOwnLine, OwnLine, usage, too_long, read_fault, write_fault, no_memory, Reads, ReadsNothing, IsReadWhole, ReadsFor, Writes, Ran}
+use Rattle.struct_core.specs.Run.{Device, IsUntouched, HasOwnLine, OwnLine, usage, too_long, read_fault, write_fault, no_memory, Reads, ReadsNothing, ReadsFor, Writes, Ran}
 use Rattle.struct_core.specs.Obtaining.{HasRead, HasText, EndsBy}
 use Rattle.struct_core.proofs.Orders.{one_order}
 

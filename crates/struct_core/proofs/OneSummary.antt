@@ -1,9 +1,8 @@
 -- A net has one summary: each of its numbers is one.
-use Rattle.std.proofs.Common.{◌≡◌, ℕ, ◌<◌, ◌≤◌, List, Some, length, refl, sym, ap, subst, ◌∙◌, arith, inl, inr, ℤ, pos}
-use Rattle.std.specs.Prelude.{Bool, ◌⊎◌}
+use Rattle.std.proofs.Common.{◌≡◌, ℕ, ◌≤◌, List, length, sym, ap, ◌∙◌, arith, inl, inr, ℤ, pos}
+use Rattle.std.specs.Prelude.{Bool}
 use Rattle.net_values.specs.Net.{Net}
 use Rattle.net_values.proofs.OneList.{one_list_of_sets}
-use Rattle.bounds.specs.LeastBound.{IsLeastBound}
 use Rattle.closed_sets.specs.Commoner.{MeetsCommoner}
 use Rattle.closed_sets.specs.MinimalSets.{IsMinimalSet}
 use Rattle.incidence.specs.Matrix.{Matrix}

@@ -7,7 +7,7 @@ use Rattle.std.proofs.lemmas.Bool.{eqb-true, false≢true}
 use Rattle.struct_core.specs.declared.order.Budget.{Budget}
 use Rattle.struct_core.specs.declared.order.Budget.TheVariants.{Rows, Sets}
 use Rattle.struct_core.specs.declared.order.Budgets.{Budgets}
-use Rattle.struct_core.specs.Words.{budget_named, default_of, most_of, IsNumber, MeansBudget, by_default, by_option, MeanBudgets}
+use Rattle.struct_core.specs.Words.{budget_named, most_of, IsNumber, MeansBudget, by_default, by_option, MeanBudgets}
 use Rattle.struct_core.specs.WordReading.{LacksOption, TakesBudget, from_option, without_option, HasBadNumber}
 use Rattle.struct_core.proofs.WordNumbers.{one_number}
 

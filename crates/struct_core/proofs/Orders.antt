@@ -1,6 +1,6 @@
 -- Words mean at most one order: their first word is that of one task or `sample`, and the words after it mean
 -- one number or one choice of budgets.
-use Rattle.std.proofs.Common.{◌≡◌, ℕ, List, [], ◌∷◌, Some, None, Option, arith, refl, sym, ap, subst, ◌∙◌, length, get_or}
+use Rattle.std.proofs.Common.{◌≡◌, ℕ, List, [], ◌∷◌, Some, None, arith, refl, sym, ap, subst, ◌∙◌, length, get_or}
 use Rattle.std.specs.Prelude.{codes}
 use Rattle.std.proofs.lemmas.Option.{same_Some}
 use Rattle.struct_core.specs.declared.order.Task.{Task}

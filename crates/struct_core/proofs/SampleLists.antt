@@ -1,9 +1,8 @@
 -- The items of the sample net, piece by piece: what occurs at which number among its elements.
-use Rattle.std.proofs.Common.{◌≡◌, ℕ, zero, suc, ◌+◌, ◌*◌, ◌<◌, List, [], ◌∷◌, ◌++◌, Some, map, refl, sym, ap, ◌∙◌, arith}
+use Rattle.std.proofs.Common.{◌≡◌, ℕ, zero, suc, ◌+◌, ◌*◌, ◌<◌, List, ◌++◌, Some, map, ap, ◌∙◌, arith}
 use Rattle.std.specs.Prelude.{slice_get, codes}
 use Rattle.std.specs.List.{flat_map, range_with_len}
 use Rattle.net_values.specs.declared.document.Item.{Item}
-use Rattle.page_flatten.specs.declared.links.End.{End}
 use Rattle.page_flatten.specs.declared.links.End.TheVariants.{AtPlace, AtTransition}
 use Rattle.page_flatten.specs.Elements.{Element, Role, NoNode, Real, elements_from}
 use Rattle.struct_core.specs.Sample.{numbered, place, transitions_of, arcs_of}

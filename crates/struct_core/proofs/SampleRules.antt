@@ -1,6 +1,6 @@
 -- The document of the sample net breaks no rule: the number of an element is read back from its id, so that ids
 -- are distinct, and each arc leads from a place to a transition or back.
-use Rattle.std.proofs.Common.{◌≡◌, ℕ, zero, suc, ◌+◌, ◌-◌, ◌*◌, ◌/◌, ◌%◌, ◌<◌, ◌≤◌, ◌^◌, List, [], ◌∷◌, ◌++◌, Option, Some, None, map, drop, get_or, refl, sym, ap, subst, ◌∙◌, arith, inl, inr}
+use Rattle.std.proofs.Common.{◌≡◌, ℕ, zero, suc, ◌+◌, ◌-◌, ◌*◌, ◌/◌, ◌%◌, ◌<◌, ◌^◌, List, [], ◌∷◌, ◌++◌, Some, None, map, drop, get_or, refl, sym, ap, ◌∙◌, arith, inl, inr}
 use Rattle.std.specs.Prelude.{slice_get, codes, decimal, if◌then◌else◌, ◌==◌}
 use Rattle.std.specs.List.{flat_map, range_with_len, AllByRecursion}
 use Rattle.std.specs.Str.Parse.{digits_value}
@@ -10,15 +10,13 @@ use Rattle.std.proofs.Math.Nat.{mod-lt}
 use Rattle.net_values.specs.declared.document.Item.{Item}
 use Rattle.net_values.specs.declared.document.Item.TheVariants.{PageEnd}
 use Rattle.net_values.specs.declared.document.NetTree.{NetTree}
-use Rattle.net_values.specs.declared.node_kind.NodeKind.{NodeKind}
 use Rattle.net_values.specs.declared.node_kind.NodeKind.TheVariants as kinds
-use Rattle.page_flatten.specs.declared.links.End.{End}
 use Rattle.page_flatten.specs.declared.links.End.TheVariants.{AtPlace, AtTransition}
-use Rattle.page_flatten.specs.Elements.{Element, Role, NoNode, Real, elements, elements_from, entries, entry_of, kind_of, mentions, references, arcs}
+use Rattle.page_flatten.specs.Elements.{Element, Role, NoNode, Real, elements, elements_from, entries, entry_of, mentions, references, arcs}
 use Rattle.page_flatten.specs.Chains.{Resolves, to_itself}
-use Rattle.page_flatten.specs.Rules.{AreDistinct, ids_of, NamesNode, IsKnown, NamesItsKind, ItsChainEnds, JoinsPlaceAndTransition, HasDistinctIds, BreaksNoRule}
+use Rattle.page_flatten.specs.Rules.{NamesNode, IsKnown, NamesItsKind, ItsChainEnds, JoinsPlaceAndTransition, HasDistinctIds, BreaksNoRule}
 use Rattle.page_flatten.proofs.Lists.{some_is, get_map, from_map}
-use Rattle.struct_core.specs.Sample.{numbered, place, transition, transitions_of, arc, arcs_of, sample_items, sample_document}
+use Rattle.struct_core.specs.Sample.{numbered, place, transitions_of, arcs_of, sample_items, sample_document}
 use Rattle.struct_core.proofs.SampleLists.{element, place_found, places_passed, take_found, release_found, transitions_passed, arc_found, arcs_passed}
 use Rattle.struct_core.proofs.SampleItems.{Nodes, every_item, all_over}
 

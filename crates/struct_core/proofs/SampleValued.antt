@@ -1,11 +1,11 @@
 -- The document of the sample net is valued: its ids are words and numbers in ASCII, its one page ends, and its
 -- counts are small.
 use Rattle.std.proofs.Common.{◌≡◌, ℕ, zero, suc, ◌+◌, ◌*◌, ◌%◌, ◌<◌, ◌≤◌, ◌^◌, List, [], ◌∷◌, ◌++◌, Bool, true, false, cond, None, map, length, refl, sym, ap, subst, ◌∙◌, arith, inl, inr, append_assoc, length-append}
-use Rattle.std.specs.Prelude.{codes, decimal, count_by, nat_lt, ◌&&◌, encode_utf8}
+use Rattle.std.specs.Prelude.{codes, decimal, count_by, nat_lt, ◌&&◌}
 use Rattle.std.specs.List.{flat_map, range_with_len, AllByRecursion, list_all}
 use Rattle.std.specs.Str.{encode_utf8_all}
 use Rattle.std.proofs.Math.Nat.{mod-lt}
-use Rattle.std.proofs.lemmas.Bool.{and_parts, and_from, ltb-true, lt-ltb}
+use Rattle.std.proofs.lemmas.Bool.{and_parts, and_from, ltb-true}
 use Rattle.std.proofs.lemmas.Bool.Decides.{nat_tests}
 use Rattle.std.proofs.lemmas.Fmt.{decimal_by_steps, decimal_nonempty, length-decimal-le}
 use Rattle.std.proofs.lemmas.List.Folds.{list_all-append}
@@ -13,7 +13,7 @@ use Rattle.std.proofs.lemmas.List.Sums.{sum_by-cons}
 use Rattle.std.proofs.lemmas.Str.{encode_ascii}
 use Rattle.net_values.specs.declared.document.Item.{Item}
 use Rattle.net_values.specs.declared.document.Item.TheVariants.{Page, PageEnd}
-use Rattle.net_values.specs.Characters.{IsTextOf, IsIdCharacter, IsId}
+use Rattle.net_values.specs.Characters.{IsIdCharacter, IsId}
 use Rattle.net_values.specs.Items.{is_page, is_place, is_transition, is_arc, is_reference}
 use Rattle.pnml_grammar.specs.Canon.{canon}
 use Rattle.pnml_grammar.specs.Valued.{HasValuesInRange, PagesMatch, IsShallow, IsWithinLimits, Valued}

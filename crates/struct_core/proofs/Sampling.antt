@@ -1,6 +1,6 @@
 -- A sample goes by the canonical text of its net: that text spells the net and breaks no rule, so that the net
 -- that is flattened is that of the sample.
-use Rattle.std.proofs.Common.{◌≡◌, ℕ, ◌≤◌, List, [], refl, sym, ap, subst, ◌∙◌, inl, inr}
+use Rattle.std.proofs.Common.{◌≡◌, ℕ, ◌≤◌, List, [], refl, sym, ap, subst, ◌∙◌, inl}
 use Rattle.net_values.specs.declared.document.Document.{Document as Read}
 use Rattle.net_values.specs.FlatNets.{NetLists}
 use Rattle.pnml_grammar.specs.Canon.{canon}
@@ -23,7 +23,7 @@ use Rattle.report.specs.SummaryText.{summary_text}
 use Rattle.struct_core.specs.declared.order.Order.TheVariants.{Sample}
 use Rattle.struct_core.specs.Answers.{FailsWith}
 use Rattle.struct_core.specs.Sample.{sample_document}
-use Rattle.struct_core.specs.Outcome.{Profile, Outcome, sample, SampleOutcome, sample_tasks}
+use Rattle.struct_core.specs.Outcome.{Outcome, sample, SampleOutcome, sample_tasks}
 use Rattle.struct_core.proofs.Listing.{fails_so}
 use Rattle.struct_core.proofs.SampleValued.{sample_profile}
 

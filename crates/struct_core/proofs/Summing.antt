@@ -1,39 +1,31 @@
 -- The outcome of a sample: the first task that is refused tells it, and where none is, their lists give the
 -- numbers of the summary.
-use Rattle.std.proofs.Common.{◌≡◌, ◌≢◌, ◌⊎◌, ℕ, List, [], ◌∷◌, Option, length, refl, sym, ap, subst, ◌∙◌, inl, inr, ℤ, pos, IsErrAnd, IfErr, Result}
-use Rattle.std.specs.Prelude.{Bool, true, false, ◌↔◌, IsTrue, codes}
+use Rattle.std.proofs.Common.{◌≡◌, ℕ, List, [], ◌∷◌, Option, length, refl, sym, subst, ℤ}
+use Rattle.std.specs.Prelude.{Bool, ◌↔◌, IsTrue, codes}
 use Rattle.std.specs.Cmp.Lexicographic.{slice_cmp}
 use Rattle.std.specs.Ordering.{bool_cmp}
-use Rattle.std.specs.List.{AllByRecursion}
-use Rattle.std.proofs.lemmas.Bool.{cases_eq}
 use Rattle.net_values.specs.declared.document.Document.{Document}
 use Rattle.net_values.specs.FlatNets.{NetLists, net_of}
-use Rattle.net_values.specs.Net.{Net}
 use Rattle.net_values.specs.Nodes.{place_id, transition_id}
 use Rattle.net_values.specs.TheList.{IsTheList}
 use Rattle.bounds.specs.declared.place_bound.PlaceBound.{PlaceBound}
 use Rattle.bounds.specs.Listed.{AreLeastBounds, AreNarrowRows}
 use Rattle.closed_sets.specs.Commoner.{MeetsCommoner}
 use Rattle.closed_sets.specs.MinimalSets.{IsMinimalSet}
-use Rattle.incidence.specs.Matrix.{Matrix, incidence_of, transposed}
+use Rattle.incidence.specs.Matrix.{incidence_of, transposed}
 use Rattle.net_class.specs.declared.verdict.Verdict.{Verdict}
 use Rattle.net_class.specs.declared.verdict.Verdict.TheVariants.{Yes, No}
 use Rattle.net_class.specs.Verdicts.{NamesFirst}
-use Rattle.page_flatten.proofs.FaultLaws.{err_goes}
 use Rattle.siphon_branch.specs.Limits.{HasAtMostGrown, IsGrownSet}
-use Rattle.report.specs.declared.refusal.Refusal.{Refusal}
 use Rattle.report.specs.declared.summary.Summary.{Summary}
 use Rattle.report.specs.SummaryText.{summary_text}
 use Rattle.report.specs.Texts.{semiflows_text, sets_text, bounds_text}
-use Rattle.struct_core.specs.declared.order.Task.{Task}
 use Rattle.struct_core.specs.declared.order.Task.TheVariants as tasks
-use Rattle.struct_core.specs.Answers.{FailsWith}
 use Rattle.struct_core.specs.Words.{default_budgets}
-use Rattle.struct_core.specs.Enumerations.{AreListed, FailedStep, SemiflowOutcome, all_semiflows, step_fails, PassedLimit, SetOutcome, all_sets, passes_limit}
-use Rattle.struct_core.specs.Verdicts.{FirstWide, first_wide, BoundOutcome, all_bounds, wide_bound, no_semiflows, IsVerdict, CommonerOutcome}
+use Rattle.struct_core.specs.Enumerations.{AreListed, FailedStep, all_semiflows, step_fails, PassedLimit, all_sets, passes_limit}
+use Rattle.struct_core.specs.Verdicts.{FirstWide, first_wide, BoundOutcome, all_bounds, wide_bound, IsVerdict}
 use Rattle.struct_core.specs.Summaries.{is_yes, HasGreatest, IsSummary}
-use Rattle.struct_core.specs.Outcome.{TaskOutcome, SampleOutcome, refused, goes_on, summary, sample_tasks}
-use Rattle.struct_core.proofs.Listing.{fails_so}
+use Rattle.struct_core.specs.Outcome.{SampleOutcome, refused, goes_on, summary, sample_tasks}
 use Rattle.struct_core.proofs.Outcomes.{step_goes_on, limit_goes_on}
 use Rattle.struct_core.proofs.SomeOutcome.{verdict_text}
 use Rattle.struct_core.proofs.Greatest.{greatest_bound}

@@ -2,13 +2,10 @@ use crate::fixture::{CHECK, Row, USAGE, check_input, check_net, check_row};
 use crate::nets::{CHAIN_OF_3, CYCLE, HEAD, REAR};
 use std::test::Fail;
 
-const MEANINGLESS: [(&str, &[&str]); 9] = [
+const MEANINGLESS: [(&str, &[&str]); 6] = [
     ("no words", &[]),
     ("an unknown word", &["place"]),
     ("a word more", &["check", "check"]),
-    ("an option", &["places", "--rows", "5"]),
-    ("an option without a number", &["siphons", "--sets"]),
-    ("a sample", &["sample", "1"]),
     ("help", &["--help"]),
     ("capitals", &["Check"]),
     ("an empty word", &[""]),

@@ -16,18 +16,25 @@ const MEANINGLESS: [(&str, &[&str]); 27] = [
     ("a separator", &["siphons", "--sets", "1_000"]),
     ("an empty number", &["places", "--rows", ""]),
     ("no number", &["places", "--rows"]),
-    ("no number for the second", &["places", "--rows", "5", "--sets"]),
-    ("an option as a number", &["places", "--rows", "--sets", "5"]),
+    (
+        "no number for the second",
+        &["places", "--rows", "5", "--sets"],
+    ),
+    (
+        "an option as a number",
+        &["places", "--rows", "--sets", "5"],
+    ),
     ("rows above the range", &["places", "--rows", "100001"]),
     ("sets above the range", &["siphons", "--sets", "1000001"]),
     (
         "a number above 2^128",
-        &["places", "--rows", "340282366920938463463374607431768211457"],
+        &[
+            "places",
+            "--rows",
+            "340282366920938463463374607431768211457",
+        ],
     ),
-    (
-        "the other order",
-        &["places", "--sets", "5", "--rows", "5"],
-    ),
+    ("the other order", &["places", "--sets", "5", "--rows", "5"]),
     ("rows twice", &["places", "--rows", "5", "--rows", "5"]),
     ("sets twice", &["siphons", "--sets", "5", "--sets", "5"]),
     ("one word with a sign", &["places", "--rows=5"]),

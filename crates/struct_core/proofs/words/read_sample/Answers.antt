@@ -1,5 +1,5 @@
 -- The second word is the only one after the first.
-use Rattle.std.proofs.Common.{rules, ◌≡◌, ◌∷◌, [], List, ℕ, length, get_or, arith, ap, ◌∙◌, subst, sym}
+use Rattle.std.proofs.Common.{rules, ◌≡◌, length, arith}
 use Rattle.std.specs.Prelude.{codes}
 use Rattle.struct_core.proofs.Orders.{sample_means}
 use Rattle.struct_core.proofs.words.read_sample.Goals as goal
