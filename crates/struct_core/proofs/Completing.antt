@@ -204,14 +204,13 @@ sample_completes document net _ _ _ within (summary numbers is) = refl
 -- the tasks of a sample ask for nothing after the document
 without_rest : (net : NetLists) → AllByRecursion (λ task. IsNarrow task default_budgets net × IsFew task default_budgets net) sample_tasks
     → AllByRecursion (λ task. IsNarrow task default_budgets net × IsFew task default_budgets net × IsCertified task net []) sample_tasks
-without_rest net within = (
-  (within.0.0, within.0.1, tt),
-  (within.1.0.0, within.1.0.1, tt),
-  (within.1.1.0.0, within.1.1.0.1, tt),
-  (within.1.1.1.0.0, within.1.1.1.0.1, tt),
-  (within.1.1.1.1.0.0, within.1.1.1.1.0.1, tt),
-  tt,
-)
+without_rest net within =
+    let one = within.0 in
+    let two = within.1.0 in
+    let three = within.1.1.0 in
+    let four = within.1.1.1.0 in
+    let five = within.1.1.1.1.0 in
+    ((one.0, one.1, tt), ((two.0, two.1, tt), ((three.0, three.1, tt), ((four.0, four.1, tt), ((five.0, five.1, tt), tt)))))
 
 for_any_input : (n : ℕ) (bytes input : List ℕ) (status : ℕ) (text : List ℕ) → Outcome (Sample n) bytes status text → Outcome (Sample n) input status text
 for_any_input _ _ input _ _ (sample n bytes net status text range flat outcome) = sample n input net status text range flat outcome

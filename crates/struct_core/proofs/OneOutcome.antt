@@ -20,6 +20,7 @@ use Rattle.report.specs.SummaryText.{summary_text}
 use Rattle.struct_core.specs.declared.order.Task.{Task}
 use Rattle.struct_core.specs.declared.order.Task.TheVariants as tasks
 use Rattle.struct_core.specs.declared.order.Budgets.{Budgets}
+use Rattle.struct_core.specs.declared.order.Order.{Order}
 use Rattle.struct_core.specs.declared.order.Order.TheVariants.{Run, Sample}
 use Rattle.report.specs.FaultLines.{document_line, rule_line}
 use Rattle.struct_core.specs.Outcome.{HasClass, TaskOutcome, Outcome, no_document, broken, answer, sample, sample_tasks, SampleOutcome, refused, goes_on, summary}
@@ -116,7 +117,7 @@ one_sample document net _ _ _ _ _ plain (summary numbers is) (summary others als
     (refl, ap (λ (n : Summary). summary_text n) (one_summary (net_of net) net.arcs numbers others is also))
 
 sample_makes_none : MakeNoTree sample_tasks
-sample_makes_none = (λ is. cc, λ is. cc, λ is. cc, λ is. cc, λ is. cc, tt)
+sample_makes_none = (λ is. cc, (λ is. cc, (λ is. cc, (λ is. cc, (λ is. cc, tt)))))
 
 -- ---- an order
 

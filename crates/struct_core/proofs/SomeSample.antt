@@ -1,6 +1,6 @@
 -- Each sample has an outcome: its net is there, and each of its tasks has an outcome, which is refused or has
 -- the list from which the numbers are read.
-use Rattle.std.proofs.Common.{◌≡◌, ◌≢◌, ◌⊎◌, ℕ, List, [], ◌∷◌, Option, length, refl, subst, inl, inr}
+use Rattle.std.proofs.Common.{◌≡◌, ◌≢◌, ◌⊎◌, ◌≤◌, ℕ, List, [], ◌∷◌, Option, length, refl, subst, inl, inr}
 use Rattle.std.specs.Prelude.{Bool}
 use Rattle.std.specs.Cmp.Lexicographic.{slice_cmp}
 use Rattle.std.specs.Ordering.{bool_cmp}
