@@ -5,7 +5,7 @@
 #[cfg(test)]
 mod bounds_and_verdicts;
 #[cfg(test)]
-mod certificates;
+mod certified;
 #[cfg(test)]
 mod classes;
 #[cfg(test)]
