@@ -121,9 +121,9 @@ fn rows_and_sets_are_sorted_and_cut(rt: HostRuntime) -> Result<(), Fail> {
     let mut sets = Sets::new(alloc);
     for (high, low) in [(2, 0), (0, 5), (0, 4), (2, 0)] {
         assert!(rt; high >= 0 && low >= 0);
-        let row = pair(alloc, high, low)?;
+        let row = pair(alloc, high, low)?.copy(alloc)?;
         assert!(rt; rows.as_slice().iter().all(|other| other.len() == row.len()));
-        rows.push(row.copy(alloc)?)?;
+        rows.push(row)?;
         let mut set = PlaceSet::new(alloc, 2)?;
         if high > 0 {
             set.insert(0);

@@ -12,7 +12,7 @@ use Rattle.cert_make.specs.declared.fault.Stop.{Stop}
 use Rattle.cert_make.specs.declared.fault.Stop.TheVariants.{SetLimit}
 use Rattle.cert_make.specs.Classes.{HasSize, IsGrownSetIn, class_of}
 use Rattle.cert_make.specs.Trees.{AddsTree}
-use Rattle.cert_make.proofs.Parting.{live_from, dead_meets, leaf_met, leaf_passed, next_below, next_kept, next_free, places_left, containing_size, containing_less, without_is, containing_is, parts_meet, first_over, then_over}
+use Rattle.cert_make.proofs.Parting.{live_from, dead_meets, leaf_met, leaf_passed, next_below, next_kept, next_free, places_left, without_size, without_less, containing_size, containing_less, without_is, containing_is, parts_meet, first_over, then_over}
 use Rattle.cert_make.proofs.TreeMaking.{empty_for, trap_for, adds_split}
 use Rattle.cert_make.proofs.commoner.+grow.Goals as goal
 
@@ -64,6 +64,24 @@ returns-in_err-grow-clause-limit t c =
     let whole : ◌≡◌ {A = Result (Unit {0}) Stop} (Err c.in_err-grow.field-0.0) (Err SetLimit) = search (rules, p.1, p.2, over) in
     first_over net c.args.class.now c.in-Some.p c.requires.class c.in-Some.ensures c.args.limit c.args.met.now c.grow.new.met
     (subst (λ (class : Class). Overruns (IsGrownSetIn net class) c.args.limit c.args.met.now c.grow.new.met) c.in_ok-without.ensures (c.in_err-grow.ensures.limit whole))
+
+pub grow-requires : goal.grow-requires
+grow-requires t c =
+    let net = net_of c.args.net.now in
+    let less : places_left c.in_ok-without.without < places_left c.args.class.now =
+    subst (λ (class : Class). places_left class < places_left c.args.class.now) (sym c.in_ok-without.ensures) (without_less net c.args.class.now c.in-Some.p c.requires.class c.in-Some.ensures) in (
+      omega (arith, less, c.decreases),
+      (
+        c.requires.commoner,
+        (
+          c.requires.places,
+          (
+            subst (HasSize net.places) (sym c.in_ok-without.ensures) (without_size net c.args.class.now c.in-Some.p c.requires.class c.in-Some.ensures),
+            (c.requires.sizes, c.requires.room),
+          ),
+        ),
+      ),
+    )
 
 pub grow-requires-2 : goal.grow-requires-2
 grow-requires-2 t c =
