@@ -114,43 +114,64 @@ fn pair(alloc: Global, high: i128, low: i128) -> Result<Vector, NoMemory>
     Ok(vector)
 }
 
+/// Appends a row of the length of those that are there.
+fn append_row(rt: &impl Abort, rows: &mut Rows, row: Vector) -> Result<(), NoMemory> {
+    assert!(rt; rows.as_slice().iter().all(|other| other.len() == row.len()));
+    rows.push(row)
+}
+
+/// Appends a set of the size of those that are there.
+fn append_set(rt: &impl Abort, sets: &mut Sets, set: PlaceSet) -> Result<(), NoMemory> {
+    assert!(rt;
+        sets.as_slice()
+            .iter()
+            .all(|other| other.size() == set.size())
+    );
+    sets.push(set)
+}
+
 #[test]
-fn rows_and_sets_are_sorted_and_cut(rt: HostRuntime) -> Result<(), Fail> {
+fn rows_are_sorted_and_cut(rt: HostRuntime) -> Result<(), Fail> {
     let alloc = rt.alloc();
     let mut rows = Rows::new(alloc);
-    let mut sets = Sets::new(alloc);
     for (high, low) in [(2, 0), (0, 5), (0, 4), (2, 0)] {
         assert!(rt; high >= 0 && low >= 0);
-        let row = pair(alloc, high, low)?.copy(alloc)?;
-        assert!(rt; rows.as_slice().iter().all(|other| other.len() == row.len()));
-        rows.push(row)?;
-        let mut set = PlaceSet::new(alloc, 2)?;
-        if high > 0 {
-            set.insert(0);
-        }
-        if low > 0 {
-            set.insert(1);
-        }
-        assert!(rt;
-            sets.as_slice()
-                .iter()
-                .all(|other| other.size() == set.size())
-        );
-        sets.push(set.copy(alloc)?)?;
+        append_row(&rt, &mut rows, pair(alloc, high, low)?.copy(alloc)?)?;
     }
     rows.sort();
-    sets.sort();
-    assert!(rt; rows.len() == 4 && sets.len() == 4);
+    assert!(rt; rows.len() == 4);
     rows.truncate(3);
-    sets.truncate(3);
-    assert!(rt; rows.len() == 3 && sets.len() == 3);
-    let (first, least) = (rows.remove(0), sets.remove(0));
-    assert!(rt; rows.len() == 2 && sets.len() == 2);
+    assert!(rt; rows.len() == 3);
+    let first = rows.remove(0);
+    assert!(rt; rows.len() == 2);
     assert!(rt;
         first == pair(alloc, 0, 4)?
             && *rows.get(0) == pair(alloc, 0, 5)?
             && *rows.get(1) == pair(alloc, 2, 0)?
     );
+    Ok(())
+}
+
+#[test]
+fn sets_are_sorted_and_cut(rt: HostRuntime) -> Result<(), Fail> {
+    let alloc = rt.alloc();
+    let mut sets = Sets::new(alloc);
+    for (high, low) in [(true, false), (false, true), (false, true), (true, false)] {
+        let mut set = PlaceSet::new(alloc, 2)?;
+        if high {
+            set.insert(0);
+        }
+        if low {
+            set.insert(1);
+        }
+        append_set(&rt, &mut sets, set.copy(alloc)?)?;
+    }
+    sets.sort();
+    assert!(rt; sets.len() == 4);
+    sets.truncate(3);
+    assert!(rt; sets.len() == 3);
+    let least = sets.remove(0);
+    assert!(rt; sets.len() == 2);
     assert!(rt; least.size() == 2 && least.contains(1) && !least.contains(0) && !least.is_empty());
     let most = sets.get(1);
     assert!(rt; most.size() == 2 && most.contains(0) && !most.contains(1));
