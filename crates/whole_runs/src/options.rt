@@ -101,12 +101,14 @@ const LIMITS_OF_ISLES: [Row<'static>; 3] = [
     },
 ];
 
+/// The digits that end the names of a fan's places, the greatest first.
+const DIGITS: [u64; 10] = [9, 8, 7, 6, 5, 4, 3, 2, 1, 0];
+
 /// The text of `places` for ten inputs and ten outputs of one transition.
 fn pairs(alloc: Global) -> Result<Vec<u8>, NoMemory> {
     let mut text = Vec::new(alloc);
-    for i in 0..10 {
-        for o in 0..10 {
-            let (input, output) = (9 - i, 9 - o);
+    for input in &DIGITS {
+        for output in &DIGITS {
             let line = format!(in alloc; "1*i{input} 1*o{output}\n")?;
             text.extend_from_slice(line.as_bytes())?;
         }
