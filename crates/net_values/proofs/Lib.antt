@@ -4,6 +4,7 @@ pub mod AscendingLists
 pub mod FlatNets
 pub mod PlaceLists
 pub mod TokenCounts
+pub mod FirstPlaces
 pub mod Lowest
 pub mod SortedLists
 pub mod OneList

@@ -77,7 +77,7 @@ empty_zero words size w none k =
 lacked_bit : (a b c : ℕ) → c ≡ min a (1 - b) → c ≡ 0 → a ≡ 1 → b < 2 → b ≡ 1
 lacked_bit a b c is none some small = omega arith
 
-lacking : (a b i : ℕ) → b < 2 ^ 64 → i < 64 → bit_at (bit_and a (bit_not w64 b)) i ≡ min (bit_at a i) (1 - bit_at b i)
+pub lacking : (a b i : ℕ) → b < 2 ^ 64 → i < 64 → bit_at (bit_and a (bit_not w64 b)) i ≡ min (bit_at a i) (1 - bit_at b i)
 lacking a b i narrow under = bit_at_and a (bit_not w64 b) i ∙ ap (λ (x : ℕ). min (bit_at a i) x) (bit_at_not w64 b i narrow under)
 
 pub none_lacked : (a b i : ℕ) → b < 2 ^ 64 → i < 64 → bit_and a (bit_not w64 b) ≡ 0 → bit_at a i ≡ 1 → bit_at b i ≡ 1

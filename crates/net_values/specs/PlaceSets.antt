@@ -1,5 +1,5 @@
 -- Sets of places, as the lists of truth values that tell for each place whether it is in.
-use Rattle.std.specs.Prelude.{◌≡◌, ◌⊎◌, ℕ, List, Bool, false, IsTrue, map, not, slice_index_or}
+use Rattle.std.specs.Prelude.{◌≡◌, ◌⊎◌, ◌<◌, ◌≤◌, ℕ, List, Bool, false, IsTrue, map, not, length, slice_index_or}
 
 -- the place is in the set; a place past its size isn't
 abbrev pub has : List Bool → ℕ → Bool
@@ -20,3 +20,14 @@ IsWithinEither set first second = (p : ℕ) → IsTrue (has set p) → (IsTrue (
 -- the set of the places that are not in this one
 abbrev pub complement : List Bool → List Bool
 complement set = map not set
+
+-- no place from this one on is in the set
+abbrev pub HasNoneFrom : List Bool → ℕ → Type 0
+HasNoneFrom set from = (p : ℕ) → from ≤ p → has set p ≡ false
+
+-- the lowest place of the set that isn't below another
+pub record IsFirstFrom (set : List Bool) (from p : ℕ) : Type 0 where
+  pub below_size : p < length set
+  pub not_before : from ≤ p
+  pub member : IsTrue (has set p)
+  pub first : (q : ℕ) → from ≤ q → q < p → has set q ≡ false

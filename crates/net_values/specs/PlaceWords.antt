@@ -1,5 +1,5 @@
 -- Sets of places in words of 64 bits: place p is bit p % 64 of word p / 64.
-use Rattle.std.specs.Prelude.{◌≡◌, ℕ, ◌+◌, ◌/◌, ◌%◌, ◌^◌, ◌<◌, ◌≤◌, ◌==◌, List, Bool, false, not, length, map, slice_index}
+use Rattle.std.specs.Prelude.{◌≡◌, ℕ, ◌+◌, ◌/◌, ◌%◌, ◌^◌, ◌<◌, ◌≤◌, ◌==◌, List, Bool, true, false, not, length, map, slice_index}
 use Rattle.std.specs.Int.{bit_at}
 use Rattle.std.specs.List.{range_with_len}
 use Rattle.net_values.specs.declared.limits.TheConstants.{MAX_ENTRIES}
@@ -37,3 +37,13 @@ pub record AreFlipped (words : List ℕ) (size : ℕ) (others : List ℕ) (n : �
   pub narrow : (k : ℕ) → slice_index others k < 2 ^ 64
   pub flipped : (p : ℕ) → p / 64 < n → p < size → word_has others p ≡ not (word_has words p)
   pub outside : (p : ℕ) → p / 64 < n → size ≤ p → word_has others p ≡ false
+
+-- no place from this one on is in
+abbrev pub HasNoPlaceFrom : List ℕ → ℕ → Type 0
+HasNoPlaceFrom words from = (p : ℕ) → from ≤ p → word_has words p ≡ false
+
+-- the lowest place that is in and isn't below another
+pub record IsFirstPlaceFrom (words : List ℕ) (from p : ℕ) : Type 0 where
+  pub not_before : from ≤ p
+  pub member : word_has words p ≡ true
+  pub first : (q : ℕ) → from ≤ q → q < p → word_has words q ≡ false

@@ -1,4 +1,4 @@
-ghost use Rattle.std.specs.Prelude.{◌≡◌, [], ◌∷◌, ◌++◌, ◌<◌, Some, length, slice_get, slice_set, OnOk, OnErr};
+ghost use Rattle.std.specs.Prelude.{◌≡◌, [], ◌∷◌, ◌++◌, ◌<◌, Some, length, slice_get, slice_set, OnOk, OnErr, IsSome, ◌↔◌, option_to_list};
 
 use crate::no_memory::NoMemory;
 use std::alloc::Global;
@@ -72,6 +72,14 @@ impl<T: Drop> List<T> {
         let mut members = more.members;
         self.members.append(&mut members)?;
         Ok(())
+    }
+
+    /// Takes out the last member and gives it, where there is one.
+    pub fn pop(&mut self) -> Option<T>
+        ensures last { self.old ≡ self.new ++ option_to_list result }
+        ensures some { IsSome result ↔ (0 < length self.old) }
+    {
+        self.members.pop()
     }
 
     /// The first member, where there is one. The others are dropped.

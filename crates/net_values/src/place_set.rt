@@ -1,18 +1,18 @@
-ghost use Rattle.std.specs.Prelude.{◌≡◌, ◌<◌, ◌≤◌, ◌↔◌, IsTrue, IfOk, true, false};
+ghost use Rattle.std.specs.Prelude.{◌≡◌, ◌<◌, ◌≤◌, ◌↔◌, IsTrue, IfOk, MatchOption, true, false};
 ghost use Rattle.std.specs.Prelude.{length, replicate, slice_set};
 ghost use Rattle.std.proofs.Common.{rules};
 ghost use Rattle.std.specs.Cmp.{partial_order_from_own_ties};
 ghost use Rattle.std.specs.Cmp.Lexicographic.{slice_cmp};
 ghost use Rattle.std.specs.Cmp.Rules.{comparing};
 ghost use Rattle.std.specs.Ordering.{is_eq, as_partial_cmp, bool_cmp};
-ghost use Rattle.net_values.specs.PlaceSets.{complement, has, IsEmpty, IsSubset, IsWithinEither};
+ghost use Rattle.net_values.specs.PlaceSets.{complement, has, HasNoneFrom, IsEmpty, IsFirstFrom, IsSubset, IsWithinEither};
 
 use crate::alike::{AlikeList, Listed};
 use crate::limits::MAX_ENTRIES;
 use crate::no_memory::NoMemory;
 use crate::place_words::{
-    are_within, are_within_either, are_zero, first_difference, flipped_words, has_bit, with_bit,
-    without_bit,
+    are_within, are_within_either, are_zero, first_difference, first_place_from, flipped_words,
+    has_bit, with_bit, without_bit,
 };
 use std::alloc::Global;
 use std::cmp::Ordering;
@@ -98,6 +98,13 @@ impl PlaceSet {
         ensures { IsTrue result ↔ IsEmpty self.now }
     {
         are_zero(self.words.as_slice())
+    }
+
+    /// The lowest place of the set that isn't below `from`, where there is one.
+    pub fn first_from(&self, from: usize) -> Option<usize>
+        ensures { MatchOption result (HasNoneFrom self.now from) (λ p. IsFirstFrom self.now from p) }
+    {
+        first_place_from(self.words.as_slice(), from)
     }
 
     /// Puts place `p` into the set.

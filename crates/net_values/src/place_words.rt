@@ -4,7 +4,7 @@
 ghost use Rattle.std.specs.Prelude.{◌≡◌, ◌≢◌, ℕ, ◌+◌, ◌*◌, ◌<◌, ◌≤◌, ◌↔◌, ◌==◌, IsTrue, IfOk, MatchOption, length, slice_index};
 ghost use Rattle.std.specs.Int.{bit_at, bit_not, w64};
 ghost use Rattle.std.specs.Int.RustNames.{bit_and, bit_or};
-ghost use Rattle.net_values.specs.PlaceWords.{AreFlipped, IsFirstDifference, IsLowestBit};
+ghost use Rattle.net_values.specs.PlaceWords.{AreFlipped, HasNoPlaceFrom, IsFirstDifference, IsFirstPlaceFrom, IsLowestBit};
 
 use crate::no_memory::NoMemory;
 use std::alloc::Global;
@@ -125,6 +125,30 @@ pub(crate) fn first_difference(words: &[u64], others: &[u64]) -> Option<bool>
         let (word, other) = (words[k], others[k]);
         if word != other {
             return Some(has_bit(word, lowest_bit(word ^ other)));
+        }
+    }
+    None
+}
+
+/// The word with its lowest `count` bits cleared and no others.
+fn without_low_bits(word: u64, count: usize) -> u64
+    ensures inside { (i : ℕ) → i < count → i < 64 → bit_at result i ≡ 0 }
+    ensures outside { (i : ℕ) → count ≤ i → i < 64 → bit_at result i ≡ bit_at word i }
+{
+    word & !low_bits(count)
+}
+
+/// The lowest place that is in and isn't below `from`.
+pub(crate) fn first_place_from(words: &[u64], from: usize) -> Option<usize>
+    requires size { length words.now ≤ 64 }
+    ensures { MatchOption result
+        (HasNoPlaceFrom words.now from)
+        (λ p. IsFirstPlaceFrom words.now from p) }
+{
+    for k in from / 64..words.len() {
+        let word = without_low_bits(words[k], from.saturating_sub(k * 64));
+        if word != 0 {
+            return Some(k * 64 + lowest_bit(word));
         }
     }
     None

@@ -237,3 +237,37 @@ fn sets_keep_their_places_across_words(rt: HostRuntime) -> Result<(), Fail> {
     assert!(rt; set.is_within_either(&others, &set) && !set.is_within_either(&others, &others));
     Ok(())
 }
+
+#[test]
+fn the_first_place_is_looked_for_from_a_place_on(rt: HostRuntime) -> Result<(), Fail> {
+    let alloc = rt.alloc();
+    let mut set = PlaceSet::new(alloc, 130)?;
+    for p in [3, 64, 129] {
+        assert!(rt; p < set.size());
+        set.insert(p);
+    }
+    for (from, first) in [
+        (0, Some(3)),
+        (3, Some(3)),
+        (4, Some(64)),
+        (64, Some(64)),
+        (65, Some(129)),
+        (130, None),
+        (usize::MAX, None),
+    ] {
+        assert_eq!(rt; set.first_from(from), first, "from {from}");
+    }
+    Ok(())
+}
+
+#[test]
+fn members_are_taken_out_last_first(rt: HostRuntime) -> Result<(), Fail> {
+    let mut list = List::new(rt.alloc());
+    list.push(1)?;
+    list.push(2)?;
+    assert_eq!(rt;
+        (list.pop(), list.pop(), list.pop()),
+        (Some(2), Some(1), None)
+    );
+    Ok(())
+}
