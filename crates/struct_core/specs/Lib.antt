@@ -1,6 +1,6 @@
--- What a run of the program means.
+-- Definitions: what the words mean, which outcome an input has, and what a run does, with the laws on them. They are what
+-- the public clauses and laws mean, so they are to be read and believed.
 pub mod Words
-pub mod WordReading
 pub mod Matrices
 pub mod Enumerations
 pub mod Verdicts
@@ -9,9 +9,11 @@ pub mod Inputs
 pub mod Sample
 pub mod Summaries
 pub mod Outcome
-pub mod Answers
 pub mod Run
-pub mod Obtaining
 pub mod Completeness
 pub mod Determined
 pub mod Laws
+-- The way from the words and the calls to them. Only clauses of private functions and lemmas cite these.
+pub mod WordReading
+pub mod Answers
+pub mod Obtaining
