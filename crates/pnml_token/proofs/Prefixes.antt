@@ -1,8 +1,10 @@
 -- Cutting at the length of a run gives the run and what follows it. The first byte that the class lacks
 -- tells that length.
-use Rattle.std.proofs.Common.{◌≡◌, ◌∙◌, ℕ, suc, ◌+◌, ◌≤◌, Bool, true, false, cond, List, [], ◌∷◌, Option, Some, None, take, drop, length, get_or, refl, sym, ap, arith}
+use Rattle.std.proofs.Common.{◌≡◌, ◌∙◌, ℕ, zero, suc, ◌+◌, ◌≤◌, Bool, true, false, cond, List, [], ◌∷◌, Option, Some, None, take, drop, length, get_or, refl, sym, ap, arith}
 use Rattle.std.specs.Prelude.{not, unwrap_or}
-use Rattle.std.specs.List.{prefix_len}
+use Rattle.std.specs.List.{list_all, prefix_len}
+use Rattle.std.proofs.lemmas.Bool.{and_parts}
+use Rattle.std.proofs.lemmas.List.{length-drop}
 use Rattle.std.proofs.lemmas.List.Sums.{prefix_len_is, prefix_len-le-length}
 use Rattle.memchr.specs.Find.{IsFirstByte}
 use Rattle.pnml_grammar.specs.Runs.{passed, beyond}
@@ -52,3 +54,30 @@ sought_prefix sought bytes None none =
     (prefix_len_is (λ byte. not (sought byte)) bytes (length bytes) 0 (omega arith)
     (λ j before. other_byte (sought (get_or bytes j 0)) (none j (omega arith) before))
     (λ inside. absurd (omega (arith, inside))))
+
+-- ---- parts that are passed whole
+
+all_passed : (p : ℕ → Bool) (xs : List ℕ) (n : ℕ) → n ≤ length xs → list_all p (take n xs) ≡ true → prefix_len p xs ≡ n + prefix_len p (drop n xs)
+all_passed p xs zero le all = omega arith
+all_passed p [] (suc n) le all = absurd (omega arith)
+all_passed p (x ∷ xs) (suc n) le all =
+    let both = and_parts (p x) (list_all p (take n xs)) all in
+    let rest = all_passed p xs n (omega arith) both.1 in
+    ap (λ b. cond b (1 + prefix_len p xs) 0) both.0 ∙ omega arith
+
+-- so many bytes were passed, and the run goes on in those that are left
+pub record AreParts (p : ℕ → Bool) (bytes : List ℕ) (n : ℕ) (rest : List ℕ) : Type 0 where
+  pub run : prefix_len p bytes ≡ n + prefix_len p rest
+  pub total : n + length rest ≡ length bytes
+
+pub part_passed : (p : ℕ → Bool) (bytes rest part after : List ℕ) (n k : ℕ) → AreParts p bytes n rest → k ≤ length rest → part ≡ take k rest → after ≡ drop k rest
+    → list_all p part ≡ true → AreParts p bytes (n + k) after
+part_passed p bytes rest part after n k parts le front back all =
+    let run = parts.run in
+    let total = parts.total in
+    let passed = all_passed p rest k le (sym (ap (list_all p) front) ∙ all) in
+    let left = length-drop k rest in
+    rw back record { run = omega arith; total = omega arith }
+
+pub no_part : (p : ℕ → Bool) (bytes : List ℕ) → AreParts p bytes 0 bytes
+no_part p bytes = record { run = omega arith; total = omega arith }

@@ -1,4 +1,5 @@
-ghost use Rattle.std.specs.Prelude.{◌≡◌, [], true, map, option_map, IfOk};
+ghost use Rattle.std.specs.Prelude.{◌≡◌, [], true, bytes_eq, map, option_map, IfOk};
+ghost use Rattle.std.specs.List.{list_any};
 ghost use Rattle.pnml_grammar.specs.Reading.{raw_attribute_at, all_raw_attributes_at, attribute_of, attributes_of, distinct_attributes_of, are_new, raw_attribute_name};
 ghost use Rattle.pnml_token.specs.Gives.{Gives};
 ghost use Rattle.pnml_token.specs.Views.{view, views};
@@ -10,6 +11,9 @@ use net_values::NoMemory;
 use pnml_grammar::{Attribute, Attributes};
 use std::alloc::Global;
 use std::collections::BTreeSet;
+
+/// Up to so many names are compared each with each; of more a set is made.
+const FEW_NAMES: usize = 8;
 
 /// An attribute as it is written: its name, and what is between its quotes.
 #[derive(Clone, Copy)]
@@ -64,15 +68,33 @@ pub(crate) fn distinct_attributes_of(
 }
 
 /// Whether no name repeats another (section 3.1, Unique Att Spec). It takes no more than n log n
-/// comparisons, and no memory for up to two names.
+/// comparisons, and no memory for few names.
 fn are_distinct(alloc: Global, raw_attributes: &[RawAttribute<'_>]) -> Result<bool, NoMemory>
     ensures { IfOk result (λ distinct. distinct ≡ are_new [] (map raw_attribute_name (views raw_attributes.now))) }
 {
-    match raw_attributes {
-        [] | [_] => Ok(true),
-        [first, second] => Ok(second.name != first.name),
-        _ => are_all_distinct(alloc, raw_attributes),
+    if raw_attributes.len() <= FEW_NAMES {
+        Ok(are_few_distinct(raw_attributes))
+    } else {
+        are_all_distinct(alloc, raw_attributes)
     }
+}
+
+fn are_few_distinct(raw_attributes: &[RawAttribute<'_>]) -> bool
+    ensures { result ≡ are_new [] (map raw_attribute_name (views raw_attributes.now)) }
+{
+    for i in 0..raw_attributes.len() {
+        if is_name_of(&raw_attributes[..i], raw_attributes[i].name) {
+            return false;
+        }
+    }
+    true
+}
+
+/// Whether one of the attributes has this name.
+fn is_name_of(raw_attributes: &[RawAttribute<'_>], name: &[u8]) -> bool
+    ensures { result ≡ list_any (λ other. bytes_eq other.name.now name.now) raw_attributes.now }
+{
+    raw_attributes.iter().any(|other| other.name == name)
 }
 
 fn are_all_distinct(alloc: Global, raw_attributes: &[RawAttribute<'_>]) -> Result<bool, NoMemory>

@@ -1,8 +1,9 @@
-ghost use Rattle.std.specs.Prelude.{◌≡◌};
+ghost use Rattle.std.specs.Prelude.{◌≡◌, IsTrue, true};
 ghost use Rattle.std.specs.List.{list_all};
 ghost use Rattle.pnml_grammar.specs.Reading.{is_legal, is_spelling};
 ghost use Rattle.pnml_token.specs.ByteClasses.{is_plain_byte};
 
+use crate::runs::PART_BYTES;
 use net_values::MAX_TOKEN_BYTES;
 use pnml_grammar::is_legal_text;
 
@@ -22,10 +23,42 @@ fn is_legal(bytes: &[u8]) -> bool
     are_plain(bytes) || are_legal(bytes)
 }
 
+/// Whether all bytes are legal characters of ASCII. Parts of a fixed length are looked at without a way out in
+/// them, so that they are compared many bytes at once; in most of them no byte is below the space.
 fn are_plain(bytes: &[u8]) -> bool
     ensures { result ≡ list_all is_plain_byte bytes.now }
 {
-    bytes.iter().all(|byte| is_plain_byte(*byte))
+    let mut rest = bytes;
+    'parts: while rest.len() >= PART_BYTES {
+        let (part, after) = rest.split_at(PART_BYTES);
+        if !are_printable_in(part) && !are_plain_in(part) {
+            return false;
+        }
+        rest = after;
+    }
+    are_plain_in(rest)
+}
+
+/// Whether all bytes of a part are printable characters of ASCII, or the space.
+fn are_printable_in(part: &[u8]) -> bool
+    ensures { IsTrue result → list_all is_plain_byte part.now ≡ true }
+{
+    let mut all = true;
+    for byte in part {
+        all = all & (32 <= *byte && *byte < 128);
+    }
+    all
+}
+
+/// Whether all bytes of a part are legal characters of ASCII.
+fn are_plain_in(part: &[u8]) -> bool
+    ensures { result ≡ list_all is_plain_byte part.now }
+{
+    let mut all = true;
+    for byte in part {
+        all = all & is_plain_byte(*byte);
+    }
+    all
 }
 
 /// A legal character of ASCII.

@@ -9,6 +9,7 @@ mod attributes;
 mod legality;
 mod markup;
 mod miss;
+mod name_bytes;
 mod references;
 mod runs;
 mod token;

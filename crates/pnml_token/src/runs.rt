@@ -1,5 +1,5 @@
 ghost use Rattle.std.specs.Prelude.{◌≡◌, codes, is_some, option_copied, option_map};
-ghost use Rattle.std.specs.List.{prefix_len};
+ghost use Rattle.std.specs.List.{list_all, prefix_len};
 ghost use Rattle.pnml_grammar.specs.Characters.{is_space};
 ghost use Rattle.pnml_grammar.specs.Names.{is_name_start};
 ghost use Rattle.pnml_grammar.specs.Reading.{name_at, name_after_space, quote_at};
@@ -7,7 +7,11 @@ ghost use Rattle.pnml_grammar.specs.Runs.{passed, beyond, past, past_text, until
 ghost use Rattle.pnml_grammar.specs.Tokens.{is_text_byte};
 ghost use Rattle.pnml_token.specs.ByteClasses.{in_class};
 
+use crate::name_bytes::is_name_byte;
 use memchr::{memchr, memmem};
+
+/// How many bytes are tested at once.
+pub(crate) const PART_BYTES: usize = 64;
 
 /// The classes of bytes that are in runs.
 #[derive(Clone, Copy)]
@@ -43,15 +47,42 @@ pub(crate) fn run_length(class: ByteClass, bytes: &[u8]) -> usize
     bytes.iter().take_while(|byte| has(class, **byte)).count()
 }
 
+/// The same of bytes that are likely to be long runs: parts of a fixed length are passed whole, without a way out in
+/// them, so that many bytes are compared at once.
+pub(crate) fn long_run_length(class: ByteClass, bytes: &[u8]) -> usize
+    ensures { result ≡ prefix_len (in_class class) bytes.now }
+{
+    let mut length = 0;
+    let mut rest = bytes;
+    'parts: while rest.len() >= PART_BYTES {
+        let (part, after) = rest.split_at(PART_BYTES);
+        if !are_all(class, part) {
+            break;
+        }
+        length += PART_BYTES;
+        rest = after;
+    }
+    length + run_length(class, rest)
+}
+
+/// Whether the class has all bytes of a part.
+fn are_all(class: ByteClass, part: &[u8]) -> bool
+    ensures { result ≡ list_all (in_class class) part.now }
+{
+    let mut all = true;
+    for byte in part {
+        all = all & has(class, *byte);
+    }
+    all
+}
+
 /// Whether the class has the byte.
 fn has(class: ByteClass, byte: u8) -> bool
     ensures { result ≡ in_class class byte }
 {
     match class {
         ByteClass::Space => is_space(byte),
-        ByteClass::Name => {
-            is_name_start(byte) || byte.is_ascii_digit() || byte == b'-' || byte == b'.'
-        }
+        ByteClass::Name => is_name_byte(byte),
         ByteClass::Value(quote) => byte != b'<' && byte != quote,
         ByteClass::Reference => byte.is_ascii_alphanumeric() || byte == b'#',
         ByteClass::Line => byte != b'\r',

@@ -8,7 +8,7 @@ ghost use Rattle.pnml_token.specs.Pieces.{meant, past_feed, IsPieceOf, IsMissOf,
 
 use crate::miss::Miss;
 use crate::references::reference_of;
-use crate::runs::{ByteClass, run_length};
+use crate::runs::{ByteClass, long_run_length};
 use net_values::{NoMemory, Text};
 use std::alloc::Global;
 
@@ -141,7 +141,7 @@ fn split_text(class: ByteClass, text: &str) -> (&str, &str)
     ensures rest { result.1.now ≡ beyond (in_class class) text.now }
     ensures utf8 { IsUtf8 result.0.now × IsUtf8 result.1.now }
 {
-    text.split_at(run_length(class, text.as_bytes()))
+    text.split_at(long_run_length(class, text.as_bytes()))
 }
 
 /// What follows the first character, which is ASCII.

@@ -1,0 +1,7 @@
+use Rattle.std.proofs.Common.{◌≡◌, IsTrue, true, take}
+use Rattle.std.specs.List.{list_all}
+use Rattle.pnml_token.specs.ByteClasses.{is_plain_byte}
+use Rattle.pnml_token.proofs.legality.are_printable_in.Given as goal
+
+abbrev pub invariant-loop-byte : goal.invariant-loop-byte
+invariant-loop-byte l = IsTrue l.all → list_all is_plain_byte (take l.byte-index l.part) ≡ true
