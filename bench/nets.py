@@ -3,6 +3,7 @@
     from nets import philosophers
     philosophers(3).document()    # the bytes of a document
 """
+import random
 
 FRONT = (
     '<?xml version="1.0" encoding="UTF-8"?><pnml xmlns="http://www.pnml.org/version-2009/grammar/pnml">'
@@ -148,6 +149,92 @@ def producer_chain(n):
         net.transition("take%d" % i, ["ready%d" % i, (full, takes)], ["work%d" % i, (room, takes)])
         net.transition("make%d" % i, ["work%d" % i, ("room%d" % (i + 1), makes)], ["ready%d" % i, ("full%d" % (i + 1), makes)])
     net.transition("sink", [("full%d" % n, 1)], [("room%d" % n, 1)])
+    return net
+
+
+def ring(n):
+    """n places and n transitions in a ring, with one token."""
+    net = Net()
+    for i in range(n):
+        net.place("p%d" % i, 1 if i == 0 else 0)
+    for i in range(n):
+        net.transition("t%d" % i, ["p%d" % i], ["p%d" % ((i + 1) % n)])
+    return net
+
+
+def islands(n):
+    """n rings of two places that share nothing."""
+    net = Net()
+    for i in range(n):
+        net.place("on%d" % i, 1)
+        net.place("off%d" % i)
+    for i in range(n):
+        net.transition("stop%d" % i, ["on%d" % i], ["off%d" % i])
+        net.transition("start%d" % i, ["off%d" % i], ["on%d" % i])
+    return net
+
+
+def mutual_exclusion(n):
+    """n processes that share one lock."""
+    net = Net()
+    for i in range(n):
+        net.place("idle%d" % i, 1)
+        net.place("critical%d" % i)
+    net.place("lock", 1)
+    for i in range(n):
+        net.transition("enter%d" % i, ["idle%d" % i, "lock"], ["critical%d" % i])
+        net.transition("leave%d" % i, ["critical%d" % i], ["idle%d" % i, "lock"])
+    return net
+
+
+def funnel(n):
+    """A fan of n by n places, whose inputs another transition takes without giving: without that one first,
+    n * n rows are made and dropped again."""
+    net = fan(n)
+    net.transition("drain", ["i%d" % i for i in range(n)])
+    return net
+
+
+def readers_and_writers(n):
+    """n readers, each with a permit of its own, and a writer who takes all permits, over n processes of two kinds."""
+    net = Net()
+    net.place("permits", n)
+    for i in range(n):
+        for state in ("idle", "reads", "writes"):
+            net.place("%s%d" % (state, i), 1 if state == "idle" else 0)
+    for i in range(n):
+        idle, reads, writes = "idle%d" % i, "reads%d" % i, "writes%d" % i
+        net.transition("read%d" % i, [idle, "permits"], [reads])
+        net.transition("done%d" % i, [reads], [idle, "permits"])
+        net.transition("write%d" % i, [idle, ("permits", n)], [writes])
+        net.transition("wrote%d" % i, [writes], [idle, ("permits", n)])
+    return net
+
+
+def marked_graph(n, seed=1):
+    """n places, each with one transition before it and one after it, in a random order over a ring."""
+    chance = random.Random(seed)
+    net = Net()
+    count = n // 2
+    net.transitions = ["t%d" % i for i in range(count)]
+    for i in range(n):
+        source, target = (i, (i + 1) % count) if i < count else chance.sample(range(count), 2)
+        net.place("p%d" % i, 1 if target <= source else 0)
+        net.arcs.append(("t%d" % source, "p%d" % i, 1))
+        net.arcs.append(("p%d" % i, "t%d" % target, 1))
+    return net
+
+
+def free_choice(n, seed=1):
+    """n places, of which each transition takes from one; where a place has several transitions they choose."""
+    chance = random.Random(seed)
+    net = Net()
+    for i in range(n):
+        net.place("p%d" % i, 1 if i % 7 == 0 else 0)
+    for i in range(n):
+        for k in range(chance.choice((1, 1, 2))):
+            outputs = {(i + 1) % n} if k == 0 else set(chance.sample(range(n), 2))
+            net.transition("t%d_%d" % (i, k), ["p%d" % i], ["p%d" % p for p in sorted(outputs)])
     return net
 
 
