@@ -23,3 +23,4 @@ pub use fault::ReadFault;
 pub use laws::{a_certificate_or_a_bad_line, one_reading};
 pub use printing::print;
 pub use reading::read;
+pub use words::next_line;

@@ -23,8 +23,8 @@ pub(crate) fn past(bytes: &[u8]) -> &[u8]
     }
 }
 
-/// The first line without its line feed, and what follows it.
-pub(crate) fn next_line(bytes: &[u8]) -> Option<(&[u8], &[u8])>
+/// The first line without its line feed, and what follows it; nothing where there is no line feed.
+pub fn next_line(bytes: &[u8]) -> Option<(&[u8], &[u8])>
     ensures parts { MatchOption result (from_first 10 bytes.now ≡ [])
         (λ x. (x.0.now ≡ before 10 bytes.now) × (length x.1.now < length bytes.now) × (from_first 10 bytes.now ≡ 10 ∷ x.1.now)) }
 {
