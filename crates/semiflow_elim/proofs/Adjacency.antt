@@ -9,7 +9,7 @@ use Rattle.std.proofs.lemmas.List.{get_or_default, get_or_past}
 use Rattle.std.proofs.Math.Nat.{mul-div_cancel'}
 use Rattle.support_prune.specs.Pools.{AreApart}
 use Rattle.incidence.specs.Matrix.{Matrix, gain_sum, loss_sum, positive_at, negative_at}
-use Rattle.incidence.specs.Semiflow.{IsWithin, IsSemiflow, IsCoprime, IsMinimal, first_columns}
+use Rattle.incidence.specs.Semiflow.{IsWithin, IsSemiflow, IsCoprime, IsMinimal}
 use Rattle.semiflow_elim.specs.Adjacent.{AloneBelow, AreAdjacent, IsZeroRow, IsJoinedRow}
 use Rattle.semiflow_elim.specs.Bases.{IsBasis, IsMinimalRow, HasBelow, IsGood}
 use Rattle.semiflow_elim.specs.Candidates.{IsCombined}
@@ -19,7 +19,7 @@ use Rattle.semiflow_elim.proofs.Transport.{rows_below}
 use Rattle.semiflow_elim.proofs.Minimal.{row_minimal}
 use Rattle.semiflow_elim.proofs.Rows.{IsRow, basis_flat}
 use Rattle.semiflow_elim.proofs.CandidateLemmas.{Extends, zero_semiflow, below_trans}
-use Rattle.semiflow_elim.proofs.Pairs.{combined_good, first_extends, quotient_positive, divisor_positive}
+use Rattle.semiflow_elim.proofs.Pairs.{combined_good, quotient_positive, divisor_positive}
 use Rattle.semiflow_elim.proofs.Joins.{IsJoin, HasSmaller, either_in, join_within, first_within, second_within, pair_join, third, minimal_alone, alone_minimal}
 
 -- the support of a vector is in that of another, or it isn't
@@ -257,8 +257,8 @@ module _ (m : Matrix) (K K' : ℕ → Type 0) (c : ℕ) (rows : List (List ℕ))
 quotient_entry : (p d q e : ℕ) → q ≡ p / d → d ∣ p → p ≡ e → d * q ≡ e
 quotient_entry p d q e is divides same = ap (λ z. d * z) is ∙ mul-div_cancel' d divides ∙ same
 
-pub combined_join : (m : Matrix) (c : ℕ) (r s row : List ℕ) → length r ≡ m.rows → IsSemiflow m (first_columns c) (slice_index r) → IsSemiflow m (first_columns c) (slice_index s) → IsPair m c r s → IsCombined r s (surplus m c r) (deficit m c s) row → IsJoin m (first_columns (c + 1)) (slice_index r) (slice_index s) (slice_index row)
-combined_join m c r s row size r_flow s_flow pair h =
+pub combined_join : (m : Matrix) (K K' : ℕ → Type 0) (c : ℕ) (r s row : List ℕ) → Extends K c K' → length r ≡ m.rows → IsSemiflow m K (slice_index r) → IsSemiflow m K (slice_index s) → IsPair m c r s → IsCombined r s (surplus m c r) (deficit m c s) row → IsJoin m K' (slice_index r) (slice_index s) (slice_index row)
+combined_join m K K' c r s row more size r_flow s_flow pair h =
     let a : ℕ = surplus m c r in
     let b : ℕ = deficit m c s in
     let up = pair.positive in
@@ -274,41 +274,41 @@ combined_join m c r s row size r_flow s_flow pair h =
       x_positive = x_positive;
       y_positive = y_positive;
       entries = λ i under. quotient_entry (slice_index h.sums i) h.divisor (slice_index row i) _ (h.entries i) (h.divisor_is.divides i (omega arith)) (h.sums_are.entries i (omega arith));
-      semiflow = (combined_good m c r s row size r_flow s_flow pair h).0.semiflow;
+      semiflow = (combined_good m K K' c r s row more size r_flow s_flow pair h).0.semiflow;
     }
 
-module _ (m : Matrix) (c : ℕ) (rows : List (List ℕ)) (basis : IsBasis m (first_columns c) rows) where
-  joined_is : (i k : ℕ) (row : List ℕ) (h : IsJoinedRow m c rows i k row) → IsJoin m (first_columns (c + 1)) (slice_index (row_of rows i)) (slice_index (row_of rows k)) (slice_index row)
-  joined_is i k row h = combined_join m c (row_of rows i) (row_of rows k) row (basis.size i [] h.first) (basis.semiflow i [] h.first) (basis.semiflow k [] h.second) h.pair h.combined
+module _ (m : Matrix) (K K' : ℕ → Type 0) (c : ℕ) (rows : List (List ℕ)) (basis : IsBasis m K rows) (more : Extends K c K') where
+  joined_is : (i k : ℕ) (row : List ℕ) (h : IsJoinedRow m c rows i k row) → IsJoin m K' (slice_index (row_of rows i)) (slice_index (row_of rows k)) (slice_index row)
+  joined_is i k row h = combined_join m K K' c (row_of rows i) (row_of rows k) row more (basis.size i [] h.first) (basis.semiflow i [] h.first) (basis.semiflow k [] h.second) h.pair h.combined
 
   -- zero rows and combinations of adjacent pairs are minimal over one column more
-  pub zero_row_good : (i : ℕ) (row : List ℕ) → IsZeroRow m c rows i row → IsMinimalRow m (first_columns (c + 1)) row
+  pub zero_row_good : (i : ℕ) (row : List ℕ) → IsZeroRow m c rows i row → IsMinimalRow m K' row
   zero_row_good i row h =
-      subst (IsMinimalRow m (first_columns (c + 1))) (sym h.same) record {
+      subst (IsMinimalRow m K') (sym h.same) record {
         size = basis.size i [] h.within;
-        minimal = zero_minimal m (first_columns c) (first_columns (c + 1)) c rows basis (first_extends c) i h.within h.equal;
+        minimal = zero_minimal m K K' c rows basis more i h.within h.equal;
       }
 
-  pub joined_row_good : (i k : ℕ) (row : List ℕ) → c < m.columns → IsJoinedRow m c rows i k row → IsMinimalRow m (first_columns (c + 1)) row
+  pub joined_row_good : (i k : ℕ) (row : List ℕ) → c < m.columns → IsJoinedRow m c rows i k row → IsMinimalRow m K' row
   joined_row_good i k row column h =
       let size : length (row_of rows i) ≡ m.rows = basis.size i [] h.first in
-      let good = combined_good m c (row_of rows i) (row_of rows k) row size (basis.semiflow i [] h.first) (basis.semiflow k [] h.second) h.pair h.combined in
+      let good = combined_good m K K' c (row_of rows i) (row_of rows k) row more size (basis.semiflow i [] h.first) (basis.semiflow k [] h.second) h.pair h.combined in
       record {
         size = good.0.size;
-        minimal = adjacent_minimal m (first_columns c) (first_columns (c + 1)) c rows basis (first_extends c) i k (slice_index row) column h.first h.second h.pair h.adjacent (joined_is i k row h) good.0.coprime;
+        minimal = adjacent_minimal m K K' c rows basis more i k (slice_index row) column h.first h.second h.pair h.adjacent (joined_is i k row h) good.0.coprime;
       }
 
   -- (C) they are apart: what is in a combination of adjacent rows comes from them
   zeros_differ : (i k : ℕ) (row other : List ℕ) → IsZeroRow m c rows i row → IsZeroRow m c rows k other → (i ≡ k → ⊥) → IsWithin m (slice_index row) (slice_index other) → ⊥
   zeros_differ i k row other first second differ within =
-      differ (one_place m (first_columns c) rows basis i k first.within second.within (λ x under some. subst (λ (l : List ℕ). 0 < slice_index l x) second.same (within x under (subst (λ (l : List ℕ). 0 < slice_index l x) (sym first.same) some))))
+      differ (one_place m K rows basis i k first.within second.within (λ x under some. subst (λ (l : List ℕ). 0 < slice_index l x) second.same (within x under (subst (λ (l : List ℕ). 0 < slice_index l x) (sym first.same) some))))
 
   zero_not_in_joined : (j i k : ℕ) (row other : List ℕ) → IsZeroRow m c rows j row → IsJoinedRow m c rows i k other → IsWithin m (slice_index row) (slice_index other) → ⊥
   zero_not_in_joined j i k row other first h within =
       let equal = first.equal in
       let up = h.pair.positive in
       let down = h.pair.negative in
-      elim (h.adjacent j first.within (λ x under some. join_within m (first_columns (c + 1)) (slice_index (row_of rows i)) (slice_index (row_of rows k)) (slice_index other) (joined_is i k other h) x under (within x under (subst (λ (l : List ℕ). 0 < slice_index l x) (sym first.same) some)))) [
+      elim (h.adjacent j first.within (λ x under some. join_within m K' (slice_index (row_of rows i)) (slice_index (row_of rows k)) (slice_index other) (joined_is i k other h) x under (within x under (subst (λ (l : List ℕ). 0 < slice_index l x) (sym first.same) some)))) [
         | inl at_first ↦
             let moved : gain_sum m c (slice_index (row_of rows i)) ≡ loss_sum m c (slice_index (row_of rows i)) = subst (λ (j : ℕ). gain_sum m c (slice_index (row_of rows j)) ≡ loss_sum m c (slice_index (row_of rows j))) at_first equal in
             absurd (omega arith)
@@ -321,14 +321,13 @@ module _ (m : Matrix) (c : ℕ) (rows : List (List ℕ)) (basis : IsBasis m (fir
   joined_not_in_zero j i k row other first h within =
       let equal = first.equal in
       let up = h.pair.positive in
-      let at_zero : i ≡ j = one_place m (first_columns c) rows basis i j h.first first.within (λ x under some. subst (λ (l : List ℕ). 0 < slice_index l x) first.same (within x under (first_within m (first_columns (c + 1)) (slice_index (row_of rows i)) (slice_index (row_of rows k)) (slice_index other) (joined_is i k other h) x under some))) in
+      let at_zero : i ≡ j = one_place m K rows basis i j h.first first.within (λ x under some. subst (λ (l : List ℕ). 0 < slice_index l x) first.same (within x under (first_within m K' (slice_index (row_of rows i)) (slice_index (row_of rows k)) (slice_index other) (joined_is i k other h) x under some))) in
       let moved : gain_sum m c (slice_index (row_of rows i)) ≡ loss_sum m c (slice_index (row_of rows i)) = subst (λ (j : ℕ). gain_sum m c (slice_index (row_of rows j)) ≡ loss_sum m c (slice_index (row_of rows j))) (sym at_zero) equal in
       absurd (omega arith)
 
   -- a combination in that of an adjacent pair is of the same pair
   same_pair : (i k i' k' : ℕ) (row other : List ℕ) → IsJoinedRow m c rows i k row → IsJoinedRow m c rows i' k' other → IsWithin m (slice_index row) (slice_index other) → (i ≡ i') × (k ≡ k')
   same_pair i k i' k' row other one two within =
-      let K' : ℕ → Type 0 = first_columns (c + 1) in
       let union : IsWithin m (slice_index row) (λ x. slice_index (row_of rows i') x + slice_index (row_of rows k') x) =
       λ x under some. join_within m K' (slice_index (row_of rows i')) (slice_index (row_of rows k')) (slice_index other) (joined_is i' k' other two) x under (within x under some)
       in

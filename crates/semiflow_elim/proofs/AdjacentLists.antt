@@ -8,10 +8,11 @@ use Rattle.std.proofs.lemmas.List.Quantifiers.{all_pairs_push}
 use Rattle.std.proofs.Math.Seq.{get_or-append_seam}
 use Rattle.support_prune.specs.Pools.{AreApart}
 use Rattle.incidence.specs.Matrix.{Matrix}
-use Rattle.incidence.specs.Semiflow.{IsWithin, first_columns}
+use Rattle.incidence.specs.Semiflow.{IsWithin}
 use Rattle.semiflow_elim.specs.Adjacent.{AreAdjacent, IsJoinedRow, IsEarlier, ComesFrom, AreJoined}
 use Rattle.semiflow_elim.specs.Bases.{IsBasis, HasBelow}
 use Rattle.semiflow_elim.specs.Elimination.{IsPair, IsNarrowPair, row_of}
+use Rattle.semiflow_elim.proofs.CandidateLemmas.{with_column, with_extends}
 use Rattle.semiflow_elim.proofs.Pairs.{combined_good}
 use Rattle.semiflow_elim.proofs.Adjacency.{joined_apart}
 
@@ -135,14 +136,14 @@ module _ (m : Matrix) (c : ℕ) (rows : List (List ℕ)) where
   }
 
   -- the combination of an adjacent pair is added
-  pub joined_more : IsBasis m (first_columns c) rows → (joined : List (List ℕ)) (i n : ℕ) (row : List ℕ) → IsJoinedRow m c rows i n row → AreJoined m c rows joined i n → AreJoined m c rows (joined ++ row ∷ []) i (n + 1)
-  joined_more basis joined i n row h l =
-      let good = combined_good m c (row_of rows i) (row_of rows n) row (basis.size i [] h.first) (basis.semiflow i [] h.first) (basis.semiflow n [] h.second) h.pair h.combined in
+  pub joined_more : (K : ℕ → Type 0) → IsBasis m K rows → (joined : List (List ℕ)) (i n : ℕ) (row : List ℕ) → IsJoinedRow m c rows i n row → AreJoined m c rows joined i n → AreJoined m c rows (joined ++ row ∷ []) i (n + 1)
+  joined_more K basis joined i n row h l =
+      let good = combined_good m K (with_column K c) c (row_of rows i) (row_of rows n) row (with_extends K c) (basis.size i [] h.first) (basis.semiflow i [] h.first) (basis.semiflow n [] h.second) h.pair h.combined in
       record {
         sources = all_pushed (ComesFrom m c rows i (n + 1)) joined row (λ k d under. source_next i n (get_or joined k d) (l.sources k d under)) (i, n, inr (refl, omega arith), h);
         apart = all_pairs_push AreApart joined row l.apart (λ k d under.
             let p = l.sources k d under in
-            joined_apart m c rows basis p.0 p.1 i n (get_or joined k d) row p.3 h (not_itself p.0 p.1 i n p.2));
+            joined_apart m K (with_column K c) c rows basis (with_extends K c) p.0 p.1 i n (get_or joined k d) row p.3 h (not_itself p.0 p.1 i n p.2));
         pairs = each_pair (Met (joined ++ row ∷ [])) i n
             (λ a b earlier under pair adjacent. below_kept m joined row (λ x. slice_index (row_of rows a) x + slice_index (row_of rows b) x) (l.pairs a b earlier under pair adjacent))
             (λ pair adjacent. below_pushed m joined row (λ x. slice_index (row_of rows i) x + slice_index (row_of rows n) x) good.1);

@@ -1,6 +1,6 @@
 -- One column more: zero rows and combinations of a positive and a negative row are semiflows over the
 -- columns with the new one, and so are their quotients by the greatest common divisor of their entries.
-use Rattle.std.proofs.Common.{◌≡◌, ◌⊎◌, sym, ap, ◌∙◌, subst, ℕ, zero, suc, ◌+◌, ◌*◌, ◌<◌, List, inl, inr, arith}
+use Rattle.std.proofs.Common.{◌≡◌, refl, ◌⊎◌, sym, ap, ◌∙◌, subst, ℕ, zero, suc, ◌+◌, ◌*◌, ◌<◌, List, inl, inr, arith}
 use Rattle.std.specs.Int.{◌∣◌}
 use Rattle.std.proofs.Math.Nat.{mul-dvd-mul_left, dvd_of_mul-dvd-mul_left, eq-one_of_dvd-one, eq_of_mul-eq-mul_left, mul-lt-mul_of_pos_left}
 use Rattle.incidence.specs.Matrix.{Matrix, gain_sum, loss_sum, positive_at, negative_at}
@@ -13,6 +13,16 @@ pub record Extends (K : ℕ → Type 0) (c : ℕ) (K' : ℕ → Type 0) : Type 0
   pub old : (j : ℕ) → K j → K' j
   pub new : K' c
   pub only : (j : ℕ) → K' j → K j ⊎ (j ≡ c)
+
+abbrev pub with_column : (ℕ → Type 0) → ℕ → ℕ → Type 0
+with_column K c j = K j ⊎ (j ≡ c)
+
+pub with_extends : (K : ℕ → Type 0) (c : ℕ) → Extends K c (with_column K c)
+with_extends K c = record {
+  old = λ j k. inl k;
+  new = inr refl;
+  only = λ j k. k;
+}
 
 extended : (m : Matrix) (K K' : ℕ → Type 0) (c : ℕ) (y : ℕ → ℕ) → Extends K c K' → IsNonzero m y → ((j : ℕ) → j < m.columns → K j → gain_sum m j y ≡ loss_sum m j y) → gain_sum m c y ≡ loss_sum m c y → IsSemiflow m K' y
 extended m K K' c y more some old new = record {

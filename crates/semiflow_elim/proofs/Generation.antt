@@ -6,7 +6,7 @@ use Rattle.std.proofs.Math.Nat.{mul-lt-mul_of_pos_left}
 use Rattle.std.specs.List.Sorted.{IsPermutation}
 use Rattle.std.proofs.lemmas.List.Sorted.{Contains-permutation, IsPermutation-sym}
 use Rattle.incidence.specs.Matrix.{Matrix}
-use Rattle.incidence.specs.Semiflow.{IsSemiflow, first_columns, all_columns}
+use Rattle.incidence.specs.Semiflow.{IsSemiflow, all_columns}
 use Rattle.semiflow_elim.specs.Bases.{IsBasis, HasBelow}
 use Rattle.semiflow_elim.specs.Generated.{sum_at, IsGenerated}
 use Rattle.semiflow_elim.proofs.Weighted.{none_or_some}
@@ -88,17 +88,17 @@ module _ (m : Matrix) (K : ℕ → Type 0) (rows : List (List ℕ)) (sound : All
 pub basis_generates : (m : Matrix) (K : ℕ → Type 0) (rows : List (List ℕ)) → IsBasis m K rows → (y : ℕ → ℕ) → IsSemiflow m K y → IsGenerated m rows y
 basis_generates m K rows h = generated m K rows h.semiflow h.below
 
-pub sorted_generates : (m : Matrix) (rows list : List (List ℕ)) → IsBasis m (first_columns m.columns) rows → IsPermutation rows list → (y : ℕ → ℕ) → IsSemiflow m all_columns y → IsGenerated m list y
-sorted_generates m rows list h moved =
+pub sorted_generates : (m : Matrix) (K : ℕ → Type 0) (rows list : List (List ℕ)) → ((j : ℕ) → j < m.columns → K j) → IsBasis m K rows → IsPermutation rows list → (y : ℕ → ℕ) → IsSemiflow m all_columns y → IsGenerated m list y
+sorted_generates m K rows list all h moved =
     generated m all_columns list (
     λ i d under.
     let x = get_or list i d in
     let here : Contains rows x = Contains-permutation list rows x (IsPermutation-sym rows list moved) (i, under, get_or_default list i x d under) in
-    let flow = subst (λ (l : List ℕ). IsSemiflow m (first_columns m.columns) (slice_index l)) here.2 (h.semiflow here.0 x here.1) in
-    semiflow_along m (first_columns m.columns) all_columns (λ j p k. p) (slice_index x) flow
+    let flow = subst (λ (l : List ℕ). IsSemiflow m K (slice_index l)) here.2 (h.semiflow here.0 x here.1) in
+    semiflow_along m K all_columns (λ j p k. all j p) (slice_index x) flow
     ) (
     λ y flow.
-    let found = h.below y (semiflow_along m all_columns (first_columns m.columns) (λ j p k. tt) y flow) in
+    let found = h.below y (semiflow_along m all_columns K (λ j p k. tt) y flow) in
     let there = Contains-permutation rows list found.1 moved (found.0, found.2, found.3) in
     (there.0, found.1, there.1, there.2, found.4)
     )

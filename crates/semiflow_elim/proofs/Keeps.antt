@@ -5,7 +5,7 @@ use Rattle.std.proofs.lemmas.Bool.{cases_lt}
 use Rattle.std.proofs.lemmas.List.{get_or_append_left, get_or-append_right, get_or_default, get_or_past}
 use Rattle.support_prune.specs.Pools.{AreApart}
 use Rattle.incidence.specs.Matrix.{Matrix}
-use Rattle.incidence.specs.Semiflow.{IsWithin, first_columns}
+use Rattle.incidence.specs.Semiflow.{IsWithin}
 use Rattle.semiflow_elim.specs.Added.{IsAdded}
 use Rattle.semiflow_elim.specs.Adjacent.{IsZeroRow, IsJoinedRow}
 use Rattle.semiflow_elim.specs.Bases.{IsBasis, HasBelow, IsGood}
@@ -15,9 +15,9 @@ use Rattle.semiflow_elim.specs.Kept.{Stays, AreKept}
 use Rattle.semiflow_elim.specs.declared.signs.RowSums.{RowSums}
 use Rattle.semiflow_elim.proofs.Adjacency.{adjacent_basis, zero_row_good, joined_row_good, zeros_apart, zero_joined_apart}
 use Rattle.semiflow_elim.proofs.Offers.{all_offers_whole}
-use Rattle.semiflow_elim.proofs.Pairs.{first_extends}
+use Rattle.semiflow_elim.proofs.CandidateLemmas.{Extends}
 
-module _ (m : Matrix) (c : ℕ) (rows joined new : List (List ℕ)) (sums : List RowSums) (basis : IsBasis m (first_columns c) rows) (column : c < m.columns) (added : IsAdded m c rows sums joined) (kept : AreKept sums (rows ++ joined) new) where
+module _ (m : Matrix) (c : ℕ) (rows joined new : List (List ℕ)) (sums : List RowSums) (K K' : ℕ → Type 0) (more : Extends K c K') (basis : IsBasis m K rows) (column : c < m.columns) (added : IsAdded m c rows sums joined) (kept : AreKept sums (rows ++ joined) new) where
   -- row a of the list before those that go are gone
   old_row : (a : ℕ) → a < length rows → row_of (rows ++ joined) a ≡ row_of rows a
   old_row a under = get_or_append_left rows joined [] a under
@@ -37,24 +37,24 @@ module _ (m : Matrix) (c : ℕ) (rows joined new : List (List ℕ)) (sums : List
       let source = added.joined_are.sources (a - length rows) [] (omega (arith, under, length-append rows joined)) in
       (source.0, source.1, subst (IsJoinedRow m c rows source.0 source.1) (sym (new_row a past)) source.3)
 
-  row_good : (a : ℕ) → a < length (rows ++ joined) → Stays sums a → IsGood m (first_columns (c + 1)) (row_of (rows ++ joined) a)
+  row_good : (a : ℕ) → a < length (rows ++ joined) → Stays sums a → IsGood m K' (row_of (rows ++ joined) a)
   row_good a under stays =
       elim (cases_lt a (length rows)) [
         | inl old ↦
-            let is = zero_row_good m c rows basis a (row_of (rows ++ joined) a) (zero_row a old stays) in
+            let is = zero_row_good m K K' c rows basis more a (row_of (rows ++ joined) a) (zero_row a old stays) in
             record { size = is.size; semiflow = is.minimal.semiflow; coprime = is.minimal.coprime }
         | inr past ↦
             let j = joined_row a past under in
-            let is = joined_row_good m c rows basis j.0 j.1 (row_of (rows ++ joined) a) column j.2 in
+            let is = joined_row_good m K K' c rows basis more j.0 j.1 (row_of (rows ++ joined) a) column j.2 in
             record { size = is.size; semiflow = is.minimal.semiflow; coprime = is.minimal.coprime }
       ]
 
   rows_apart : (a b : ℕ) → a < b → b < length (rows ++ joined) → Stays sums a → Stays sums b → AreApart (row_of (rows ++ joined) a) (row_of (rows ++ joined) b)
   rows_apart a b order under first second =
       elim (cases_lt b (length rows)) [
-        | inl old ↦ zeros_apart m c rows basis a b _ _ (zero_row a (omega arith) first) (zero_row b old second) (λ same. omega (arith, same))
+        | inl old ↦ zeros_apart m K K' c rows basis more a b _ _ (zero_row a (omega arith) first) (zero_row b old second) (λ same. omega (arith, same))
         | inr past ↦ elim (cases_lt a (length rows)) [
-          | inl early ↦ let j = joined_row b past under in zero_joined_apart m c rows basis a j.0 j.1 _ _ (zero_row a early first) j.2
+          | inl early ↦ let j = joined_row b past under in zero_joined_apart m K K' c rows basis more a j.0 j.1 _ _ (zero_row a early first) j.2
           | inr late ↦
               let both : AreApart (row_of joined (a - length rows)) (row_of joined (b - length rows)) = added.joined_are.apart (a - length rows) (b - length rows) [] (omega arith) (omega (arith, under, length-append rows joined)) in
               subst (λ (row : List ℕ). AreApart row (row_of (rows ++ joined) b)) (sym (new_row a late)) (subst (AreApart (row_of joined (a - length rows))) (sym (new_row b past)) both)
@@ -72,12 +72,12 @@ module _ (m : Matrix) (c : ℕ) (rows joined new : List (List ℕ)) (sums : List
       let none = get_or_past sums a record { gain = 0; loss = 0; largest = 0 } (omega arith) in
       ap (λ (own : RowSums). own.gain) none ∙ sym (ap (λ (own : RowSums). own.loss) none)
 
-  pub kept_basis : IsBasis m (first_columns (c + 1)) new
+  pub kept_basis : IsBasis m K' new
   kept_basis =
-      adjacent_basis m (first_columns c) (first_columns (c + 1)) c rows basis (first_extends c) new column
+      adjacent_basis m K K' c rows basis more new column
       (λ j d under.
       let s = kept.sources j under in
-      subst (IsGood m (first_columns (c + 1))) (sym (get_or_default new j d [] under ∙ s.3)) (row_good s.0 s.1 s.2))
+      subst (IsGood m K') (sym (get_or_default new j d [] under ∙ s.3)) (row_good s.0 s.1 s.2))
       (λ j k d before under.
       let o = kept.ascending j k before under in
       let both = rows_apart o.a o.b o.order o.within o.first_stays o.second_stays in

@@ -8,6 +8,8 @@ pub mod CandidateLemmas
 pub mod Pairs
 pub mod Steps
 pub mod Units
+pub mod TakenSets
+pub mod Choosing
 pub mod Listed
 pub mod Generation
 pub mod Offers

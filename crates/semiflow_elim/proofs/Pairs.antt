@@ -1,8 +1,7 @@
 -- A pair's combination: divided by the greatest common divisor of its entries it is a coprime semiflow over one
 -- column more, below the two rows together.
-use Rattle.std.proofs.Common.{◌≡◌, sym, ap, ◌∙◌, subst, ℕ, zero, suc, ◌+◌, ◌-◌, ◌*◌, ◌/◌, ◌^◌, ◌<◌, ◌≤◌, List, [], ◌++◌, length, get_or, slice_index, take, drop, inl, inr, arith}
+use Rattle.std.proofs.Common.{◌≡◌, sym, ap, ◌∙◌, subst, ℕ, zero, suc, ◌+◌, ◌-◌, ◌*◌, ◌/◌, ◌^◌, ◌<◌, ◌≤◌, List, [], ◌++◌, length, get_or, slice_index, take, drop, arith}
 use Rattle.std.specs.Int.{◌∣◌, IsGcd}
-use Rattle.std.proofs.lemmas.Bool.{cases_lt}
 use Rattle.std.proofs.lemmas.List.{get_or_default}
 use Rattle.std.proofs.lemmas.Nat.{mul-le}
 use Rattle.std.proofs.lemmas.Nat.Gcd.{same_from_IsGcd}
@@ -10,7 +9,7 @@ use Rattle.std.proofs.Math.Seq.{take-append_seam}
 use Rattle.std.proofs.Math.Nat.{pos_of_dvd_of_pos, mul-div_cancel', div-le_self}
 use Rattle.net_values.specs.Vectors.{IsVector}
 use Rattle.incidence.specs.Matrix.{Matrix}
-use Rattle.incidence.specs.Semiflow.{IsWithin, IsSemiflow, first_columns}
+use Rattle.incidence.specs.Semiflow.{IsWithin, IsSemiflow}
 use Rattle.semiflow_elim.specs.Arithmetic.{IsScaledSum, IsGcdOfAll}
 use Rattle.semiflow_elim.specs.Adjacent.{AreAdjacent, IsJoinedRow}
 use Rattle.semiflow_elim.specs.Bases.{IsGood}
@@ -66,16 +65,6 @@ combined_vector r s row a b h vector = record {
 pub taken : {X : Type 0} (after items : List X) (len : ℕ) → len ≡ length after → take len (after ++ drop (length after) items) ≡ after
 taken after items len is = ap (λ (n : ℕ). take n (after ++ drop (length after) items)) is ∙ take-append_seam after (drop (length after) items)
 
-pub first_extends : (c : ℕ) → Extends (first_columns c) c (first_columns (c + 1))
-first_extends c = record {
-  old = λ j below. omega arith;
-  new = omega arith;
-  only = λ j below. elim (cases_lt j c) [
-    | inl old ↦ inl old
-    | inr new ↦ inr (omega arith)
-  ];
-}
-
 either_positive : (x r y s : ℕ) → 0 < x * r + y * s → 0 < r + s
 either_positive x zero y zero some = absurd (omega arith)
 either_positive x zero y (suc s) some = omega arith
@@ -93,8 +82,8 @@ cross a b g gcd =
     omega arith
 
 -- the combination of a positive and a negative semiflow
-pub combined_good : (m : Matrix) (c : ℕ) (r s row : List ℕ) → length r ≡ m.rows → IsSemiflow m (first_columns c) (slice_index r) → IsSemiflow m (first_columns c) (slice_index s) → IsPair m c r s → IsCombined r s (surplus m c r) (deficit m c s) row → IsGood m (first_columns (c + 1)) row × IsWithin m (slice_index row) (λ x. slice_index r x + slice_index s x) × IsNarrowPair m c r s
-combined_good m c r s row size r_flow s_flow pair h =
+pub combined_good : (m : Matrix) (K K' : ℕ → Type 0) (c : ℕ) (r s row : List ℕ) → Extends K c K' → length r ≡ m.rows → IsSemiflow m K (slice_index r) → IsSemiflow m K (slice_index s) → IsPair m c r s → IsCombined r s (surplus m c r) (deficit m c s) row → IsGood m K' row × IsWithin m (slice_index row) (λ x. slice_index r x + slice_index s x) × IsNarrowPair m c r s
+combined_good m K K' c r s row more size r_flow s_flow pair h =
     let a = surplus m c r in
     let b = deficit m c s in
     let up = pair.positive in
@@ -104,21 +93,21 @@ combined_good m c r s row size r_flow s_flow pair h =
     let x_positive : 0 < x = quotient_positive h.g b h.gcd.1 (omega arith) in
     let some = r_flow.nonzero in
     let divisor : 0 < h.divisor = divisor_positive x y r s h.sums h.divisor h.sums_are h.divisor_is (some.0, omega (arith, some.1), some.2) x_positive in
-    let flow : IsSemiflow m (first_columns (c + 1)) (slice_index h.sums) =
-    pair_semiflow m (first_columns c) (first_columns (c + 1)) c (slice_index h.sums) (slice_index r) (slice_index s) x y a b (first_extends c) r_flow s_flow (omega arith) (omega arith) (cross a b h.g h.gcd) x_positive (λ i under. h.sums_are.entries i (omega arith))
+    let flow : IsSemiflow m K' (slice_index h.sums) =
+    pair_semiflow m K K' c (slice_index h.sums) (slice_index r) (slice_index s) x y a b more r_flow s_flow (omega arith) (omega arith) (cross a b h.g h.gcd) x_positive (λ i under. h.sums_are.entries i (omega arith))
     in
     let entries : (i : ℕ) → i < m.rows → slice_index h.sums i ≡ h.divisor * slice_index row i =
     λ i under. quotient_entry (slice_index h.sums i) h.divisor (slice_index row i) (h.entries i) (h.divisor_is.divides i (omega arith))
     in (
       record {
         size = h.size ∙ size;
-        semiflow = divided_semiflow m (first_columns (c + 1)) (slice_index h.sums) (slice_index row) h.divisor divisor entries flow;
+        semiflow = divided_semiflow m K' (slice_index h.sums) (slice_index row) h.divisor divisor entries flow;
         coprime = divided_coprime m (slice_index h.sums) (slice_index row) h.divisor divisor entries (λ e each. h.divisor_is.greatest e (λ i under. each i (omega arith)));
       },
-      λ i under more.
+      λ i under some_entry.
           let entry = entries i under in
           let sum = h.sums_are.entries i (omega arith) in
-          let inside : 0 < h.divisor * slice_index row i = product_positive h.divisor (slice_index row i) divisor more in
+          let inside : 0 < h.divisor * slice_index row i = product_positive h.divisor (slice_index row i) divisor some_entry in
           either_positive x (slice_index r i) y (slice_index s i) (omega arith),
       λ g gcd i under.
           let same : g ≡ h.g = same_from_IsGcd a b g h.g gcd h.gcd in

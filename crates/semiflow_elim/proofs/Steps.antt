@@ -4,8 +4,7 @@ use Rattle.std.proofs.lemmas.Bool.{cases_lt}
 use Rattle.std.proofs.lemmas.List.{get_or_default, get_or_append_left, get_or_push, length_push}
 use Rattle.std.proofs.lemmas.List.Sums.{sum_by-cons}
 use Rattle.incidence.specs.Matrix.{Matrix, AreNarrow, gain_sum, loss_sum}
-use Rattle.incidence.specs.Semiflow.{first_columns}
-use Rattle.semiflow_elim.specs.Bases.{IsBasis}
+use Rattle.semiflow_elim.specs.Bases.{IsBasis, in_set}
 use Rattle.semiflow_elim.specs.Candidates.{IsStep, AreSums, HasLargest, HasSums, sums_of, signs_total}
 use Rattle.semiflow_elim.specs.Elimination.{candidate_count, is_zero, is_positive, is_negative, row_of}
 use Rattle.semiflow_elim.specs.declared.signs.RowSums.{RowSums}
@@ -46,9 +45,10 @@ module _ (m : Matrix) (c : ℕ) (rows : List (List ℕ)) (sums : List RowSums) (
   pub all_narrow : All (λ row. AreNarrow m c (slice_index row)) rows
   all_narrow k d under = subst (λ (row : List ℕ). AreNarrow m c (slice_index row)) (get_or_default rows k [] d under) (h.narrow k under)
 
-  pub sums_step : c < m.columns → IsBasis m (first_columns c) rows → IsStep m c rows sums
-  sums_step column basis = record {
+  pub sums_step : c < m.columns → (taken : List Bool) → IsBasis m (in_set taken) rows → IsStep m c rows sums
+  sums_step column taken basis = record {
     column = column;
+    taken = taken;
     basis = basis;
     size = h.size;
     gains = h.gains;

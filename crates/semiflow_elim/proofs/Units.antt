@@ -6,7 +6,6 @@ use Rattle.std.proofs.lemmas.Bool.{cases_eq, cases_lt}
 use Rattle.std.proofs.lemmas.List.{get_or-set_same, get_or-set_other, get_or-replicate, get_or_past, get_or_default, length-set, length-replicate}
 use Rattle.std.proofs.Math.Nat.{eq-one_of_dvd-one}
 use Rattle.incidence.specs.Matrix.{Matrix}
-use Rattle.incidence.specs.Semiflow.{first_columns}
 use Rattle.semiflow_elim.specs.Bases.{IsBasis, AreUnits}
 
 zero_read : (n i : ℕ) → slice_index (replicate n 0) i ≡ 0
@@ -34,14 +33,14 @@ unit_only n k i some =
 units_apart : (n i j : ℕ) → (i ≡ j → ⊥) → i < n → 0 < slice_index (set (replicate n 0) j 1) i → ⊥
 units_apart n i j other within some = other (unit_only n j i some)
 
-pub units_basis : (m : Matrix) (rows : List (List ℕ)) → AreUnits m.rows rows m.rows → IsBasis m (first_columns 0) rows
-units_basis m rows h = record {
+pub units_basis : (m : Matrix) (K : ℕ → Type 0) (rows : List (List ℕ)) → ((j : ℕ) → j < m.columns → K j → ⊥) → AreUnits m.rows rows m.rows → IsBasis m K rows
+units_basis m K rows none h = record {
   size = λ k d within. let count = h.count in ap length (h.units k d (omega arith)) ∙ length-set (replicate m.rows 0) k 1 ∙ length-replicate {A = ℕ} m.rows 0;
   semiflow = λ k d within.
       let count = h.count in
       record {
         nonzero = (k, omega arith, let one = ap (λ (row : List ℕ). slice_index row k) (h.units k d (omega arith)) ∙ unit_here m.rows k (omega arith) in omega arith);
-        balanced = λ j p none. absurd (omega arith);
+        balanced = λ j p k. absurd (none j p k);
       };
   coprime = λ k d within.
       let count = h.count in

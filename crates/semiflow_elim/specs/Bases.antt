@@ -1,8 +1,13 @@
 -- Lists of semiflows of minimal support.
-use Rattle.std.specs.Prelude.{◌≡◌, ◌↔◌, ℕ, ◌<◌, List, length, replicate, slice_set, slice_index_or, All, AllPairs, Any, Contains, slice_index}
+use Rattle.std.specs.Prelude.{◌≡◌, ◌↔◌, ℕ, ◌<◌, Bool, IsTrue, List, length, replicate, slice_set, slice_index_or, All, AllPairs, Any, Contains, slice_index}
+use Rattle.net_values.specs.PlaceSets.{has}
 use Rattle.support_prune.specs.Pools.{AreApart}
 use Rattle.incidence.specs.Matrix.{Matrix}
 use Rattle.incidence.specs.Semiflow.{IsWithin, IsSemiflow, IsCoprime, IsMinimal}
+
+-- the columns of a set
+abbrev pub in_set : List Bool → ℕ → Type 0
+in_set taken j = IsTrue (has taken j)
 
 -- the list has an entry for each row of the matrix, and is a semiflow over K with coprime entries whose
 -- support is minimal

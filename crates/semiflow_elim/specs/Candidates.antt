@@ -1,12 +1,11 @@
 -- The candidates of an elimination step: the combinations of its pairs, its rows' sums, and how many pairs there
 -- are.
-use Rattle.std.specs.Prelude.{◌≡◌, ℕ, ◌+◌, ◌*◌, ◌/◌, ◌^◌, ◌<◌, ◌≤◌, ◌==◌, if◌then◌else◌, nat_lt, count_by, List, length, slice_index, slice_index_or, take}
+use Rattle.std.specs.Prelude.{◌≡◌, ℕ, ◌+◌, ◌*◌, ◌/◌, ◌^◌, ◌<◌, ◌≤◌, ◌==◌, if◌then◌else◌, nat_lt, count_by, Bool, List, length, slice_index, slice_index_or, take}
 use Rattle.std.specs.Int.{IsGcd}
 use Rattle.incidence.specs.Matrix.{Matrix, AreNarrow, gain_sum, loss_sum}
-use Rattle.incidence.specs.Semiflow.{first_columns}
 use Rattle.semiflow_elim.specs.declared.signs.RowSums.{RowSums}
 use Rattle.semiflow_elim.specs.Arithmetic.{IsScaledSum, IsGcdOfAll, HasWideEntry}
-use Rattle.semiflow_elim.specs.Bases.{IsBasis}
+use Rattle.semiflow_elim.specs.Bases.{IsBasis, in_set}
 use Rattle.semiflow_elim.specs.Elimination.{row_of}
 
 -- the combination of two rows by their differences a and b, divided by the greatest common divisor of its
@@ -46,10 +45,11 @@ pub record HasSums (m : Matrix) (c : ℕ) (row : List ℕ) (own : RowSums) : Typ
   pub narrow : AreNarrow m c (slice_index row)
   pub largest : HasLargest row own
 
--- the rows of a step with their sums at its column
+-- the rows of a step from some set of columns with their sums at the column of the step
 pub record IsStep (m : Matrix) (c : ℕ) (rows : List (List ℕ)) (sums : List RowSums) : Type 0 where
   pub column : c < m.columns
-  pub basis : IsBasis m (first_columns c) rows
+  pub taken : List Bool
+  pub basis : IsBasis m (in_set taken) rows
   pub size : length sums ≡ length rows
   pub gains : (k : ℕ) → k < length rows → (sums_of sums k).gain ≡ gain_sum m c (slice_index (row_of rows k))
   pub losses : (k : ℕ) → k < length rows → (sums_of sums k).loss ≡ loss_sum m c (slice_index (row_of rows k))

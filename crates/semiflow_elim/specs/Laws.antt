@@ -7,7 +7,7 @@ use Rattle.incidence.specs.Matrix.{Matrix}
 use Rattle.incidence.specs.Semiflow.{IsWithin, IsSemiflow, IsMinimal, all_columns}
 use Rattle.semiflow_elim.specs.Bases.{IsBasis, AreMinimal, IsMinimalRow}
 use Rattle.semiflow_elim.specs.Generated.{IsGenerated}
-use Rattle.semiflow_elim.specs.FirstFail.{StepPasses, IsFirstFail}
+use Rattle.semiflow_elim.specs.FirstFail.{EveryStepPasses, IsFirstFail}
 use Rattle.semiflow_elim.specs.declared.fault.ElimFault.{ElimFault}
 
 -- the columns at which a test gives true
@@ -51,4 +51,4 @@ FirstFailuresAreOne = (m : Matrix) (budget : ℕ) (fault other : ElimFault) → 
 
 -- and none where every step passes
 abbrev pub FailuresExcludePassing : Type 0
-FailuresExcludePassing = (m : Matrix) (budget : ℕ) (fault : ElimFault) → IsFirstFail m budget fault → ((j : ℕ) → j < m.columns → StepPasses m budget j) → ⊥
+FailuresExcludePassing = (m : Matrix) (budget : ℕ) (fault : ElimFault) → IsFirstFail m budget fault → EveryStepPasses m budget → ⊥

@@ -9,3 +9,4 @@ pub mod Tableaus
 pub mod Adjacent
 pub mod Kept
 pub mod Added
+pub mod Choices

@@ -1,18 +1,22 @@
--- A tableau: a matrix, the number of its columns that were taken, and the rows over them.
-use Rattle.std.specs.Prelude.{ℕ, ◌^◌, ◌<◌, ◌≤◌, List, length}
+-- A tableau: a matrix, the set of its columns that were taken, and the rows over them.
+use Rattle.std.specs.Prelude.{◌≡◌, ℕ, ◌^◌, ◌<◌, ◌≤◌, Bool, List, length, count_by}
 use Rattle.net_values.specs.declared.limits.TheConstants.{MAX_ENTRIES}
-use Rattle.incidence.specs.Semiflow.{first_columns}
 use Rattle.incidence.specs.Tables.{Tables, matrix_of}
-use Rattle.semiflow_elim.specs.Bases.{IsBasis}
+use Rattle.semiflow_elim.specs.Bases.{IsBasis, in_set}
 
 pub record TableauValue : Type 0 where
   pub tables : Tables
-  pub done : ℕ
+  pub taken : List Bool
   pub rows : List (List ℕ)
 
--- the rows are a basis of the semiflows over the columns that were taken
-pub record IsTableau (t : TableauValue) : Type 0 where
-  pub taken : t.done ≤ (matrix_of t.tables).columns
-  pub basis : IsBasis (matrix_of t.tables) (first_columns t.done) t.rows
+-- the number of columns in a set
+abbrev pub size_of : List Bool → ℕ
+size_of taken = count_by (λ member. member) taken
+
+-- the rows are a basis of the semiflows over the columns that were taken, which are this many
+pub record IsTableau (t : TableauValue) (done : ℕ) : Type 0 where
+  pub columns : length t.taken ≡ (matrix_of t.tables).columns
+  pub count : done ≡ size_of t.taken
+  pub basis : IsBasis (matrix_of t.tables) (in_set t.taken) t.rows
   pub short : (matrix_of t.tables).columns ≤ MAX_ENTRIES
   pub few : length t.rows < 2 ^ 32

@@ -5,6 +5,7 @@
 
 mod adjacent;
 mod candidates;
+mod choice;
 mod elimination;
 mod fault;
 mod kept;

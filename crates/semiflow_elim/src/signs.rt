@@ -3,7 +3,7 @@ ghost use Rattle.std.specs.Prelude.{IfOk, IfErr, OnErr, All, length, nat_lt, cou
 ghost use Rattle.incidence.specs.Matrix.{AreNarrow};
 ghost use Rattle.incidence.specs.Tables.{matrix_of};
 ghost use Rattle.semiflow_elim.specs.Candidates.{AreSums, HasSums, signs_total};
-ghost use Rattle.semiflow_elim.specs.Elimination.{FailsBy};
+ghost use Rattle.semiflow_elim.specs.Elimination.{AreWideAt};
 
 use crate::fault::ElimFault;
 use crate::row_arithmetic::largest;
@@ -30,8 +30,8 @@ pub(crate) fn row_sums(
     requires size { All (λ row. length row ≡ (matrix_of matrix.now).rows) rows.now }
     ensures ok { IfOk result (λ sums.
         AreSums (matrix_of matrix.now) column rows.now sums.items (length rows.now)) }
-    ensures fails { (budget : ℕ) →
-        IfErr result (λ fault. (fault ≡ ElimFault.NoMemory) ⊎ FailsBy (matrix_of matrix.now) budget column rows.now fault) }
+    ensures fails { IfErr result (λ fault. (fault ≡ ElimFault.NoMemory) ⊎
+        ((fault ≡ ElimFault.WideSum column) × AreWideAt (matrix_of matrix.now) column rows.now)) }
 {
     let mut sums = Vec::new(alloc);
     for row in rows {

@@ -1,19 +1,22 @@
-ghost use Rattle.std.specs.Prelude.{◌≡◌, ℕ, ◌+◌, ◌<◌, ◌≤◌, ◌^◌, ◌⊎◌, IfOk, OnOk, OnErr, IfErr, length};
-ghost use Rattle.incidence.specs.Semiflow.{first_columns};
+ghost use Rattle.std.specs.Prelude.{◌≡◌, ℕ, ◌+◌, ◌<◌, ◌≤◌, ◌^◌, ◌⊎◌, IfOk, OnOk, OnErr, IfErr};
+ghost use Rattle.std.specs.Prelude.{false, true, length, replicate, slice_set};
+ghost use Rattle.net_values.specs.PlaceSets.{has};
 ghost use Rattle.incidence.specs.Tables.{matrix_of};
 ghost use Rattle.semiflow_elim.specs.Added.{IsAdded};
-ghost use Rattle.semiflow_elim.specs.Bases.{IsBasis, AreMinimal, AreUnits};
+ghost use Rattle.semiflow_elim.specs.Bases.{IsBasis, AreMinimal, AreUnits, in_set};
 ghost use Rattle.semiflow_elim.specs.Candidates.{signs_total};
 ghost use Rattle.semiflow_elim.specs.Elimination.{Passes, FailsBy};
+ghost use Rattle.semiflow_elim.specs.Tableaus.{size_of};
 
 use crate::candidates::join_all;
+use crate::choice::chosen_column;
 use crate::fault::ElimFault;
 use crate::kept::keep_zeros;
 use crate::row_arithmetic::RowFault;
-use crate::signs::{RowSums, candidate_total, row_sums};
+use crate::signs::{RowSums, row_sums};
 use crate::step::Step;
 use incidence::Incidence;
-use net_values::{MAX_ENTRIES, NoMemory, Rows, Vector};
+use net_values::{MAX_ENTRIES, NoMemory, PlaceSet, Rows, Vector};
 use std::alloc::Global;
 use std::marker::Model;
 
@@ -22,6 +25,7 @@ use std::marker::Model;
 pub struct Tableau<'m> {
     matrix: &'m Incidence,
     alloc: Global,
+    taken: PlaceSet,
     done: usize,
     rows: Vec<Vector>,
 }
@@ -31,25 +35,28 @@ impl<'m> Model for Tableau<'m> {
 
     ghost Value = { TableauValue };
 
-    ghost view = { λ t. record { tables = t.matrix.now; done = t.done; rows = t.rows.items } };
+    ghost view = { λ t. record { tables = t.matrix.now; taken = t.taken; rows = t.rows.items } };
 
     ghost invariant = { λ t. IsTableau record {
       tables = t.matrix.now;
-      done = t.done;
+      taken = t.taken;
       rows = t.rows.items;
-    } };
+    } t.done };
 }
 
 impl<'m> Tableau<'m> {
     /// The tableau with no column taken.
     pub fn start(alloc: Global, matrix: &'m Incidence) -> Result<Tableau<'m>, NoMemory>
         ensures matrix { IfOk result (λ tableau. tableau.tables ≡ matrix.now) }
-        ensures done { IfOk result (λ tableau. tableau.done ≡ 0) }
+        ensures none { IfOk result (λ tableau.
+            tableau.taken ≡ replicate (matrix_of matrix.now).columns false) }
     {
         let rows = unit_rows(alloc, matrix.rows())?;
+        let taken = PlaceSet::new(alloc, matrix.columns())?;
         Ok(Tableau {
             matrix,
             alloc,
+            taken,
             done: 0,
             rows,
         })
@@ -57,27 +64,38 @@ impl<'m> Tableau<'m> {
 
     /// The number of columns that were taken.
     pub fn done(&self) -> usize
-        ensures value { result ≡ self.now.done }
-        ensures minimal { AreMinimal (matrix_of self.now.tables) (first_columns self.now.done) self.now.rows }
+        ensures value { result ≡ size_of self.now.taken }
+        ensures columns { length self.now.taken ≡ (matrix_of self.now.tables).columns }
+        ensures minimal { AreMinimal (matrix_of self.now.tables) (in_set self.now.taken) self.now.rows }
     {
         self.done
     }
 
-    /// Takes the next column, with at most `rows` candidates. A refusal leaves the tableau unchanged:
-    /// first `WideSum` where a sum of a row exceeds 2^127 - 1, then `RowBudget` with the number of
-    /// candidates where there are more, then `WideRow` where an entry of a pair's combination exceeds
+    /// Whether a column was taken.
+    pub fn taken(&self, column: usize) -> bool
+        requires { column < (matrix_of self.now.tables).columns }
+        ensures { result ≡ has self.now.taken column }
+    {
+        self.taken.contains(column)
+    }
+
+    /// Takes the column with the fewest candidates, at most `rows` of them; of several such columns the
+    /// lowest. A refusal leaves the tableau unchanged: first `WideSum` with the lowest column that wasn't taken
+    /// where a sum of a row exceeds 2^127 - 1, then `RowBudget` with the column and the number of candidates
+    /// where there are more, then `WideRow` with the column where an entry of a pair's combination exceeds
     /// 2^127 - 1 before it is divided; `NoMemory` at any time.
     pub fn step(&mut self, rows: u32) -> Result<(), ElimFault>
-        requires { self.old.done < (matrix_of self.old.tables).columns }
-        ensures ok { OnOk result (self.new.done ≡ self.old.done + 1) }
+        requires { size_of self.old.taken < (matrix_of self.old.tables).columns }
+        ensures ok { OnOk result ((column : ℕ) × (self.new.taken ≡ slice_set self.old.taken column true) ×
+            Passes (matrix_of self.old.tables) rows (in_set self.old.taken) self.old.rows column) }
+        ensures count { OnOk result (size_of self.new.taken ≡ size_of self.old.taken + 1) }
         ensures matrix { self.new.tables ≡ self.old.tables }
-        ensures passes { OnOk result
-            (Passes (matrix_of self.old.tables) rows self.old.done self.old.rows) }
         ensures err { OnErr result (self.new ≡ self.old) }
         ensures fails { IfErr result (λ fault. (fault ≡ ElimFault.NoMemory) ⊎
-            FailsBy (matrix_of self.old.tables) rows self.old.done self.old.rows fault) }
+            FailsBy (matrix_of self.old.tables) rows (in_set self.old.taken) self.old.rows fault) }
     {
-        take_column(self.alloc, self.matrix, self.done, &mut self.rows, rows)?;
+        let column = take_column(self.alloc, self.matrix, &self.taken, &mut self.rows, rows)?;
+        self.taken.insert(column);
         self.done += 1;
         Ok(())
     }
@@ -86,69 +104,81 @@ impl<'m> Tableau<'m> {
     /// taken. The support of each semiflow over these columns has that of a row in it.
     pub fn into_rows(self) -> Rows
         ensures rows { result ≡ self.entry.rows }
-        ensures minimal { AreMinimal (matrix_of self.entry.tables) (first_columns self.entry.done) self.entry.rows }
-        ensures basis { IsBasis (matrix_of self.entry.tables) (first_columns self.entry.done) self.entry.rows }
+        ensures minimal { AreMinimal (matrix_of self.entry.tables) (in_set self.entry.taken) self.entry.rows }
+        ensures basis { IsBasis (matrix_of self.entry.tables) (in_set self.entry.taken) self.entry.rows }
     {
         Rows::from_members(self.rows)
     }
 }
 
-/// Takes a column: the combinations of the adjacent pairs are added, and of the others the zero rows stay.
+/// Takes a column, which it gives: the combinations of the adjacent pairs are added, and of the others the zero
+/// rows stay.
 fn take_column(
     alloc: Global,
     matrix: &Incidence,
-    column: usize,
+    taken: &PlaceSet,
     rows: &mut Vec<Vector>,
     budget: u32,
-) -> Result<(), ElimFault>
-    requires column { column < (matrix_of matrix.now).columns }
-    requires basis { IsBasis (matrix_of matrix.now) (first_columns column) rows.old.items }
+) -> Result<usize, ElimFault>
+    requires columns { length taken.now ≡ (matrix_of matrix.now).columns }
+    requires left { (j : ℕ) × (j < length taken.now) × (has taken.now j ≡ false) }
+    requires basis { IsBasis (matrix_of matrix.now) (in_set taken.now) rows.old.items }
     requires few { length rows.old.items < 2 ^ 32 }
-    ensures basis { OnOk result (IsBasis (matrix_of matrix.now) (first_columns (column + 1)) rows.new.items) }
+    ensures basis { IfOk result (λ column.
+        IsBasis (matrix_of matrix.now) (in_set (slice_set taken.now column true)) rows.new.items) }
     ensures few { OnOk result (length rows.new.items < 2 ^ 32) }
-    ensures passes { OnOk result (Passes (matrix_of matrix.now) budget column rows.old.items) }
+    ensures passes { IfOk result (λ column.
+        Passes (matrix_of matrix.now) budget (in_set taken.now) rows.old.items column) }
     ensures err { OnErr result (rows.new.items ≡ rows.old.items) }
     ensures fails { IfErr result (λ fault. (fault ≡ ElimFault.NoMemory) ⊎
-        FailsBy (matrix_of matrix.now) budget column rows.old.items fault) }
+        FailsBy (matrix_of matrix.now) budget (in_set taken.now) rows.old.items fault) }
 {
-    let added = added_rows(alloc, matrix, column, rows.as_slice(), budget)?;
-    let Added { sums, mut joined } = added;
+    let added = added_rows(alloc, matrix, taken, rows.as_slice(), budget)?;
+    let Added {
+        column,
+        sums,
+        mut joined,
+    } = added;
     if rows.append(&mut joined).is_err() {
         return Err(ElimFault::NoMemory);
     }
     keep_zeros(rows, sums.as_slice());
-    Ok(())
+    Ok(column)
 }
 
-/// What a step adds: the two sums of each row, and the combinations of the adjacent pairs.
+/// What a step adds: its column, the two sums of each row there, and the combinations of the adjacent pairs.
 struct Added {
+    column: usize,
     sums: Vec<RowSums>,
     joined: Vec<Vector>,
 }
 
-/// What the step adds at a column.
+/// What the step from a set of columns adds.
 fn added_rows(
     alloc: Global,
     matrix: &Incidence,
-    column: usize,
+    taken: &PlaceSet,
     rows: &[Vector],
     budget: u32,
 ) -> Result<Added, ElimFault>
-    requires column { column < (matrix_of matrix.now).columns }
-    requires basis { IsBasis (matrix_of matrix.now) (first_columns column) rows.now }
+    requires columns { length taken.now ≡ (matrix_of matrix.now).columns }
+    requires left { (j : ℕ) × (j < length taken.now) × (has taken.now j ≡ false) }
+    requires basis { IsBasis (matrix_of matrix.now) (in_set taken.now) rows.now }
     requires few { length rows.now < 2 ^ 32 }
     ensures added { IfOk result (λ added.
-        IsAdded (matrix_of matrix.now) column rows.now added.sums.items added.joined.items) }
+        IsAdded (matrix_of matrix.now) added.column rows.now added.sums.items added.joined.items) }
     ensures budget { IfOk result (λ added. signs_total added.sums.items ≤ budget) }
-    ensures passes { OnOk result (Passes (matrix_of matrix.now) budget column rows.now) }
+    ensures passes { IfOk result (λ added.
+        Passes (matrix_of matrix.now) budget (in_set taken.now) rows.now added.column) }
     ensures fails { IfErr result (λ fault. (fault ≡ ElimFault.NoMemory) ⊎
-        FailsBy (matrix_of matrix.now) budget column rows.now fault) }
+        FailsBy (matrix_of matrix.now) budget (in_set taken.now) rows.now fault) }
 {
-    let sums = row_sums(alloc, matrix, column, rows)?;
-    let count = candidate_total(sums.as_slice());
-    if count > u64::from(budget) {
-        return Err(ElimFault::RowBudget(column, count));
+    let choice = chosen_column(alloc, matrix, taken, rows)?;
+    let column = choice.column;
+    if choice.count > u64::from(budget) {
+        return Err(ElimFault::RowBudget(column, choice.count));
     }
+    let sums = row_sums(alloc, matrix, column, rows)?;
     let step = Step {
         matrix,
         column,
@@ -156,7 +186,11 @@ fn added_rows(
         sums: sums.as_slice(),
     };
     match join_all(alloc, &step) {
-        Ok(joined) => Ok(Added { sums, joined }),
+        Ok(joined) => Ok(Added {
+            column,
+            sums,
+            joined,
+        }),
         Err(RowFault::Wide) => Err(ElimFault::WideRow(column)),
         Err(RowFault::NoMemory) => Err(ElimFault::NoMemory),
     }

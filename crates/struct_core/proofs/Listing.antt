@@ -14,7 +14,7 @@ use Rattle.semiflow_elim.specs.declared.fault.ElimFault.{ElimFault}
 use Rattle.semiflow_elim.specs.declared.fault.ElimFault.TheVariants as faults
 use Rattle.semiflow_elim.specs.Bases.{IsMinimalRow}
 use Rattle.semiflow_elim.specs.Generated.{IsGenerated}
-use Rattle.semiflow_elim.specs.FirstFail.{StepPasses, IsExplained}
+use Rattle.semiflow_elim.specs.FirstFail.{EveryStepPasses, IsExplained}
 use Rattle.siphon_branch.specs.declared.fault.SetFault.{SetFault}
 use Rattle.siphon_branch.specs.declared.fault.SetFault.TheVariants as limits
 use Rattle.siphon_branch.specs.Faults.{FailsToList}
@@ -39,7 +39,7 @@ fails_so Tells Wider refusal widen (inr told) = inr record { low = told.low; not
 
 -- ---- semiflows
 
-pub listed_for : (m n : Matrix) (budget : ℕ) (list : List (List ℕ)) → m ≡ n → ((j : ℕ) → j < m.columns → StepPasses m budget j)
+pub listed_for : (m n : Matrix) (budget : ℕ) (list : List (List ℕ)) → m ≡ n → EveryStepPasses m budget
     → IsTheList (slice_cmp nat_cmp) (IsMinimalRow m all_columns) list → AreListed n budget list
 listed_for m n budget list same passes is = subst (λ k. AreListed k budget list) same record { passes = passes; is = is }
 

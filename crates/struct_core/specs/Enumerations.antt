@@ -1,5 +1,5 @@
 -- What listing the semiflows, siphons or traps of a net gives: a text, or the line that tells why not.
-use Rattle.std.specs.Prelude.{ℕ, ◌<◌, List, Bool}
+use Rattle.std.specs.Prelude.{ℕ, List, Bool}
 use Rattle.std.specs.Cmp.Lexicographic.{slice_cmp}
 use Rattle.std.specs.Ordering.{nat_cmp, bool_cmp}
 use Rattle.net_values.specs.TheList.{IsTheList}
@@ -7,7 +7,7 @@ use Rattle.incidence.specs.Matrix.{Matrix}
 use Rattle.incidence.specs.Semiflow.{all_columns}
 use Rattle.semiflow_elim.specs.declared.fault.ElimFault.TheVariants.{WideSum, RowBudget, WideRow}
 use Rattle.semiflow_elim.specs.Bases.{IsMinimalRow}
-use Rattle.semiflow_elim.specs.FirstFail.{StepPasses, IsFirstFail}
+use Rattle.semiflow_elim.specs.FirstFail.{EveryStepPasses, IsFirstFail}
 use Rattle.siphon_branch.specs.Limits.{HaveAtMost, CarriesMore}
 use Rattle.report.specs.Texts.{semiflows_text, sets_text}
 use Rattle.report.specs.FaultLines.{wide_sum_line, wide_row_line, budget_line, limit_line}
@@ -15,7 +15,7 @@ use Rattle.report.specs.FaultLines.{wide_sum_line, wide_row_line, budget_line, l
 -- no step of the elimination fails, and the list has all semiflows of minimal support with coprime entries,
 -- strictly ascending
 pub record AreListed (m : Matrix) (budget : ℕ) (list : List (List ℕ)) : Type 0 where
-  pub passes : (j : ℕ) → j < m.columns → StepPasses m budget j
+  pub passes : EveryStepPasses m budget
   pub is : IsTheList (slice_cmp nat_cmp) (IsMinimalRow m all_columns) list
 
 -- the first step that fails does so; `columns` gives the ids of the columns

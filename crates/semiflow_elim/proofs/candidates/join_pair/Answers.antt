@@ -3,6 +3,7 @@ use Rattle.std.proofs.lemmas.Bool.{false≢true}
 use Rattle.std.proofs.lemmas.Result.{err_from_is_err_and}
 use Rattle.incidence.specs.Tables.{matrix_of}
 use Rattle.semiflow_elim.specs.Adjacent.{AreJoined}
+use Rattle.semiflow_elim.specs.Bases.{in_set}
 use Rattle.semiflow_elim.specs.Elimination.{IsPair, row_of}
 use Rattle.semiflow_elim.proofs.AdjacentLists.{joined_skip, joined_more}
 use Rattle.semiflow_elim.proofs.Pairs.{read_row, row_nonzero, pair_signs, pair_wide, pair_narrow, pair_combined}
@@ -58,7 +59,7 @@ pub returns-clause-joined : goal.returns-clause-joined
 returns-clause-joined c =
     let pushed : c.push.new.self.items ≡ c.args.joined.now.items ++ c.in_ok-row.row ∷ [] = search rules in
     subst (λ (l : List (List ℕ)). AreJoined (matrix_of c.args.step.now.matrix.now) c.args.step.now.column c.args.step.now.rows.now l c.args.i (c.args.k + 1)) (sym pushed)
-    (joined_more (matrix_of c.args.step.now.matrix.now) c.args.step.now.column c.args.step.now.rows.now c.requires.step.basis c.args.joined.now.items c.args.i c.args.k c.in_ok-row.row
+    (joined_more (matrix_of c.args.step.now.matrix.now) c.args.step.now.column c.args.step.now.rows.now (in_set c.requires.step.taken) c.requires.step.basis c.args.joined.now.items c.args.i c.args.k c.in_ok-row.row
     (pair_combined (matrix_of c.args.step.now.matrix.now) c.args.step.now.column c.args.step.now.rows.now c.args.step.now.sums.now c.args.i c.args.k c.index-rows-i-2.result c.index-rows-k-2.result c.in_ok-row.row c.requires.step c.requires.first c.requires.second (omega arith) (omega arith)
     (read_row c.args.step.now.rows.now c.args.i c.index-rows-i-2.result c.requires.first c.index-rows-i-2.is)
     (read_row c.args.step.now.rows.now c.args.k c.index-rows-k-2.result c.requires.second c.index-rows-k-2.is)
