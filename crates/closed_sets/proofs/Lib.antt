@@ -1,8 +1,10 @@
 pub mod Below
 pub mod Fed
 pub mod Falling
+pub mod Settling
 pub mod Firing
 pub mod Firsts
+pub mod OpenSets
 pub mod GreatestSiphons
 pub mod Outside
 pub mod Covers

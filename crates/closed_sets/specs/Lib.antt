@@ -5,6 +5,7 @@ pub mod MinimalSets
 pub mod Growth
 pub mod Commoner
 pub mod Kept
+pub mod Opens
 -- Only clauses of private functions and lemmas cite these.
 pub mod Kinds
 pub mod Passes

@@ -7,7 +7,7 @@ use std::marker::Model;
 /// The places that fell out of a set and whose transitions are still to be looked at, in a room of fixed
 /// size. Contracts see it as their list, the last one at the end.
 #[derive(Drop)]
-pub(crate) struct Fallen {
+pub struct Fallen {
     room: [u16; MAX_PLACES],
     count: usize,
 }
@@ -25,7 +25,7 @@ impl Model for Fallen {
 
 impl Fallen {
     /// No place.
-    pub(crate) fn none() -> Fallen
+    pub fn none() -> Fallen
         ensures { result ≡ [] }
     {
         Fallen {

@@ -44,15 +44,21 @@ pub fn greatest_siphon_without(net: &FlatNet, set: &mut PlaceSet, p: usize)
 
 /// Takes place `p` out of a siphon, and leaves the greatest siphon in the rest where that has every place of
 /// the other set that is left. Else it tells `false` as soon as one of them has fallen, and what the set holds
-/// then is lost.
-pub fn keeps_without(net: &FlatNet, set: &mut PlaceSet, p: usize, kept: &PlaceSet) -> bool
+/// then is lost. What the scratch list holds is lost.
+pub fn keeps_without(
+    net: &FlatNet,
+    set: &mut PlaceSet,
+    p: usize,
+    kept: &PlaceSet,
+    fallen: &mut Fallen,
+) -> bool
     requires size { length set.old ≡ (net_of net.now).places }
     requires siphon { IsSiphon (net_of net.now) (has set.old) }
     ensures size { length set.new ≡ length set.old }
     ensures left { MatchBool result (KeepsWithout (net_of net.now) kept.now p set.old set.new)
         (LosesWithout (net_of net.now) kept.now p set.old) }
 {
-    leave_out(net, set, p, &mut Fallen::none(), Guard::Members(kept))
+    leave_out(net, set, p, fallen, Guard::Members(kept))
 }
 
 /// Takes place `p` out of a siphon, and leaves the greatest siphon in the rest. Gives up, with `false`, where

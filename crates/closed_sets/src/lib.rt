@@ -10,11 +10,13 @@ mod kind;
 mod laws;
 mod marked;
 mod minimal;
+mod opens;
 mod propagate;
 #[cfg(test)]
 mod tests;
 
 pub use closed::{first_open_transition, is_siphon, is_trap};
+pub use fallen::Fallen;
 pub use greatest::{greatest_siphon, greatest_siphon_without, greatest_trap, keeps_without};
 pub use laws::{
     commoner_excludes_dead_markings, dead_markings_empty_a_siphon, each_set_has_a_greatest_siphon,
@@ -22,4 +24,5 @@ pub use laws::{
     traps_are_siphons_reversed, traps_stay_marked, unions_of_siphons_are_siphons,
 };
 pub use marked::has_marked_trap;
-pub use minimal::is_minimal_siphon;
+pub use minimal::{has_no_smaller_siphon, is_minimal_siphon};
+pub use opens::{add_place, find_open};

@@ -1,7 +1,7 @@
 ghost use Rattle.std.specs.Prelude.{◌≡◌, ℕ, ◌<◌, ◌↔◌, IsTrue, length};
 ghost use Rattle.net_values.specs.FlatNets.{net_of};
 ghost use Rattle.net_values.specs.PlaceSets.{has};
-ghost use Rattle.closed_sets.specs.ClosedSets.{IsMinimalSiphon, IsSiphon, HasSiphonWithout};
+ghost use Rattle.closed_sets.specs.ClosedSets.{IsMinimalSiphon, IsNonempty, IsSiphon, HasSiphonWithout};
 
 use crate::closed::is_siphon;
 use crate::fallen::Fallen;
@@ -20,11 +20,33 @@ pub fn is_minimal_siphon(net: &FlatNet, set: &PlaceSet, scratch: &mut PlaceSet) 
     if set.is_empty() || !is_siphon(net, set) {
         return false;
     }
-    let mut fallen = Fallen::none();
-    for p in 0..net.places() {
-        if set.contains(p) && has_siphon_without(net, set, p, scratch, &mut fallen) {
+    has_no_smaller_siphon(net, set, scratch, &mut Fallen::none())
+}
+
+/// Whether a nonempty siphon has no smaller nonempty siphon in it. What the scratch set and the scratch list
+/// hold is lost.
+pub fn has_no_smaller_siphon(
+    net: &FlatNet,
+    set: &PlaceSet,
+    scratch: &mut PlaceSet,
+    fallen: &mut Fallen,
+) -> bool
+    requires set { length set.now ≡ (net_of net.now).places }
+    requires scratch { length scratch.old ≡ (net_of net.now).places }
+    requires siphon { IsSiphon (net_of net.now) (has set.now) }
+    requires some { IsNonempty (net_of net.now) (has set.now) }
+    ensures exact { IsTrue result ↔ IsMinimalSiphon (net_of net.now) (has set.now) }
+    ensures size { length scratch.new ≡ length scratch.old }
+{
+    let mut from = 0;
+    while from < set.size() {
+        let Some(p) = set.first_from(from) else {
+            return true;
+        };
+        if has_siphon_without(net, set, p, scratch, fallen) {
             return false;
         }
+        from = p + 1;
     }
     true
 }

@@ -81,6 +81,7 @@ const WITHOUT: [WithoutRow; 3] = [
 fn siphons_of_a_line_without_a_place(rt: HostRuntime) -> Result<(), Fail> {
     let alloc = rt.alloc();
     let line = net_with(alloc, &[0; 2], 1, LINE)?;
+    let mut fallen = Fallen::none();
     for (place, left, kept, stay) in &WITHOUT {
         let mut set = place_set(alloc, 2, &[0, 1])?;
         let mut other = set.copy(alloc)?;
@@ -90,7 +91,10 @@ fn siphons_of_a_line_without_a_place(rt: HostRuntime) -> Result<(), Fail> {
         greatest_siphon_without(&line, &mut set, *place);
         assert!(rt; set == place_set(alloc, 2, left)?);
         assert!(rt; is_siphon(&line, &other));
-        assert_eq!(rt; keeps_without(&line, &mut other, *place, &kept), *stay);
+        assert_eq!(rt;
+            keeps_without(&line, &mut other, *place, &kept, &mut fallen),
+            *stay
+        );
     }
     Ok(())
 }

@@ -1,6 +1,6 @@
 use Rattle.net_values.specs.FlatNets.{net_of}
 use Rattle.closed_sets.specs.Kinds.{seen_as}
-use Rattle.closed_sets.proofs.Falling.{falling_from, settles_first}
+use Rattle.closed_sets.proofs.Settling.{falling_from, settles_first}
 use Rattle.closed_sets.proofs.greatest.greatest.Goals as goal
 
 pub returns-clause-greatest : goal.returns-clause-greatest

@@ -1,5 +1,5 @@
 use Rattle.net_values.specs.FlatNets.{net_of}
-use Rattle.closed_sets.proofs.Falling.{keeps_members, loses_member, match_both}
+use Rattle.closed_sets.proofs.Settling.{keeps_members, loses_member, match_both}
 use Rattle.closed_sets.proofs.greatest.keeps_without.Goals as goal
 
 pub returns-clause-left : goal.returns-clause-left

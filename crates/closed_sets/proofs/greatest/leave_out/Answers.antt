@@ -2,7 +2,7 @@ use Rattle.std.proofs.Common.{◌≡◌, ◌∙◌, ◌++◌, ◌∷◌, [], ap,
 use Rattle.std.proofs.lemmas.List.Sums.{count_by-le-length}
 use Rattle.net_values.specs.FlatNets.{net_of}
 use Rattle.net_values.specs.PlaceSets.{has}
-use Rattle.closed_sets.proofs.Falling.{falling_one}
+use Rattle.closed_sets.proofs.Settling.{falling_one}
 use Rattle.closed_sets.proofs.greatest.leave_out.Goals as goal
 
 pub propagate-requires-clause-falling : goal.propagate-requires-clause-falling

@@ -2,7 +2,7 @@ use Rattle.std.proofs.Common.{◌∙◌, sym, Bool, arith}
 use Rattle.std.proofs.lemmas.List.Sums.{count_by-le-length}
 use Rattle.net_values.specs.FlatNets.{net_of}
 use Rattle.closed_sets.specs.Kinds.{seen_as}
-use Rattle.closed_sets.proofs.Falling.{looked_skip, looked_more, looked_all}
+use Rattle.closed_sets.proofs.Settling.{looked_skip, looked_more, looked_all}
 use Rattle.closed_sets.proofs.greatest.look.Goals as goal
 use Rattle.closed_sets.proofs.greatest.look.Goals.{then-contains, else-contains}
 

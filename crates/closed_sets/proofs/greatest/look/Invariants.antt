@@ -1,6 +1,6 @@
 use Rattle.net_values.specs.FlatNets.{net_of}
 use Rattle.closed_sets.specs.Kinds.{seen_as}
-use Rattle.closed_sets.proofs.Falling.{IsLooked}
+use Rattle.closed_sets.proofs.Settling.{IsLooked}
 use Rattle.closed_sets.proofs.greatest.look.Given as goal
 
 abbrev pub invariant-loop-p : goal.invariant-loop-p

@@ -1,8 +1,8 @@
-use Rattle.std.proofs.Common.{refl, arith}
+use Rattle.std.proofs.Common.{refl}
 use Rattle.std.proofs.lemmas.Bool.{false≢true}
 use Rattle.net_values.specs.FlatNets.{net_of}
 use Rattle.net_values.specs.PlaceSets.{has}
-use Rattle.closed_sets.proofs.SmallerSiphons.{nonempty_from, nonempty_not, minimal_from}
+use Rattle.closed_sets.proofs.SmallerSiphons.{nonempty_from, nonempty_not}
 use Rattle.closed_sets.proofs.minimal.is_minimal_siphon.Goals as goal
 use Rattle.closed_sets.proofs.minimal.is_minimal_siphon.Goals.{then-is_empty-via-then-is_empty, then-is_empty-via-else-is_empty+then-not-is_siphon}
 
@@ -15,10 +15,6 @@ returns-then-is_empty-clause-exact c = (
   ],
 )
 
-pub returns-clause-exact : goal.returns-clause-exact
-returns-clause-exact c = (
-  λ _. minimal_from (net_of c.args.net.now) (has c.args.set.now) (c.if-not-is_siphon.ensures.0 refl)
-      (nonempty_from (net_of c.args.net.now) c.args.set.now c.requires.set (λ empty. false≢true (c.if-is_empty.ensures.1 empty)))
-      (λ p below. c.loop-p.invariant.1 p (omega (arith, c.places-p-end.ensures.value, below))),
-  λ _. refl,
-)
+pub has_no_smaller_siphon-requires-clause-some : goal.has_no_smaller_siphon-requires-clause-some
+has_no_smaller_siphon-requires-clause-some c =
+    nonempty_from (net_of c.args.net.now) c.args.set.now c.requires.set (λ empty. false≢true (c.if-is_empty.ensures.1 empty))

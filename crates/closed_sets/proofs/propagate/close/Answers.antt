@@ -3,7 +3,8 @@ use Rattle.net_values.specs.FlatNets.{net_of}
 use Rattle.net_values.specs.PlaceSets.{has}
 use Rattle.closed_sets.specs.ClosedSets.{has_input_in}
 use Rattle.closed_sets.specs.Kinds.{seen_as}
-use Rattle.closed_sets.proofs.Falling.{closes, closes_not, loses, match_both}
+use Rattle.closed_sets.proofs.Falling.{closes, closes_not, loses}
+use Rattle.closed_sets.proofs.Settling.{match_both}
 use Rattle.closed_sets.proofs.Passes.{meets_is}
 use Rattle.closed_sets.proofs.propagate.close.Goals as goal
 

@@ -1,6 +1,6 @@
 use Rattle.net_values.specs.FlatNets.{net_of}
 use Rattle.closed_sets.specs.Kinds.{seen_as}
-use Rattle.closed_sets.proofs.Falling.{closes_none, closes_more, loses_before}
+use Rattle.closed_sets.proofs.Settling.{closes_none, closes_more, loses_before}
 use Rattle.closed_sets.proofs.propagate.close_all.Goals as goal
 
 pub loop-t-init : goal.loop-t-init

@@ -3,7 +3,7 @@ use Rattle.std.proofs.lemmas.List.Elements.{Contains-push}
 use Rattle.net_values.specs.FlatNets.{net_of}
 use Rattle.closed_sets.specs.Falling.{IsFalling}
 use Rattle.closed_sets.specs.Kinds.{seen_as}
-use Rattle.closed_sets.proofs.Falling.{falling_more, loses_earlier}
+use Rattle.closed_sets.proofs.Settling.{falling_more, loses_earlier}
 use Rattle.closed_sets.proofs.propagate.propagate.Goals as goal
 
 pub takers-requires : goal.takers-requires
