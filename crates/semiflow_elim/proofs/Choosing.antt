@@ -1,14 +1,12 @@
 -- Looking for the column with the fewest candidates, one column after another.
-use Rattle.std.proofs.Common.{◌≡◌, ◌⊎◌, refl, sym, ◌∙◌, subst, ℕ, ◌+◌, ◌<◌, ◌≤◌, Bool, true, false, List, Option, None, Some, slice_index, inl, inr, arith}
+use Rattle.std.proofs.Common.{◌≡◌, refl, sym, ◌∙◌, subst, ℕ, ◌+◌, ◌<◌, ◌≤◌, Bool, true, false, List, Option, None, Some, inl, inr, arith}
 use Rattle.std.proofs.lemmas.Bool.{cases_lt, false≢true}
 use Rattle.net_values.specs.PlaceSets.{has}
-use Rattle.incidence.specs.Matrix.{Matrix, AreNarrow}
+use Rattle.incidence.specs.Matrix.{Matrix}
 use Rattle.semiflow_elim.specs.Bases.{in_set}
 use Rattle.semiflow_elim.specs.Choices.{IsBest}
-use Rattle.semiflow_elim.specs.Elimination.{AreNarrowAt, AreWideAt, AreNarrowOutside, IsFirstWide, IsChosen, FailsBy, candidate_count}
+use Rattle.semiflow_elim.specs.Elimination.{IsChosen, candidate_count}
 use Rattle.semiflow_elim.specs.declared.choice.Choice.{Choice}
-use Rattle.semiflow_elim.specs.declared.fault.ElimFault.{ElimFault}
-use Rattle.semiflow_elim.specs.declared.fault.ElimFault.TheVariants.{NoMemory, WideSum}
 use Rattle.semiflow_elim.proofs.TakenSets.{outside, outside_is}
 
 -- what holds below n and at n holds below n + 1
@@ -61,33 +59,17 @@ module _ (taken : List Bool) (count_at : ℕ → ℕ) (n : ℕ) where
       }
 
 -- in the end it is the column of the step
-pub best_chosen : (m : Matrix) (taken : List Bool) (rows : List (List ℕ)) (choice : Choice) → IsBest taken (λ j. candidate_count m j rows) m.columns (Some choice) → IsChosen m (in_set taken) rows choice.column
-best_chosen m taken rows choice h = record {
-  within = h.within;
-  outside = outside taken choice.column h.outside;
-  fewest = λ j under out. let few = h.fewest j under (outside_is (has taken j) out) in let count = h.count in omega arith;
-  lowest = λ j under out. let few = h.lowest j under (outside_is (has taken j) out) in let count = h.count in omega arith;
-}
-
--- where no sum outside the set is wide, none is at the column of the step
-pub wide_excluded : (m : Matrix) (K : ℕ → Type 0) (rows : List (List ℕ)) (c : ℕ) (fault : ElimFault) → AreNarrowOutside m K rows → IsChosen m K rows c → (fault ≡ NoMemory) ⊎ ((fault ≡ WideSum c) × AreWideAt m c rows) → fault ≡ NoMemory
-wide_excluded m K rows c fault narrow chosen (inl none) = none
-wide_excluded m K rows c fault narrow chosen (inr fails) =
-    let wide = fails.1 in
-    absurd (wide.4 (subst (λ (row : List ℕ). AreNarrow m c (slice_index row)) wide.3 (narrow c chosen.within chosen.outside wide.0 wide.1 wide.2)))
-
--- a column at which a sum is wide, after columns at which none is
-pub first_wide : (m : Matrix) (taken : List Bool) (rows : List (List ℕ)) (budget j : ℕ) (fault : ElimFault) → j < m.columns → has taken j ≡ false → ((i : ℕ) → i < j → has taken i ≡ false → AreNarrowAt m i rows) → (fault ≡ NoMemory) ⊎ ((fault ≡ WideSum j) × AreWideAt m j rows) → (fault ≡ NoMemory) ⊎ FailsBy m budget (in_set taken) rows fault
-first_wide m taken rows budget j fault within free before (inl none) = inl none
-first_wide m taken rows budget j fault within free before (inr fails) =
-    let wide : IsFirstWide m (in_set taken) rows j = record {
-      within = within;
-      outside = outside taken j free;
-      wide = fails.1;
-      before = λ i less out. before i less (outside_is (has taken i) out);
+pub best_chosen : (m : Matrix) (taken : List Bool) (rows : List (List ℕ)) (count_at : ℕ → ℕ) (n : ℕ) (choice : Choice) → n ≡ m.columns → ((j : ℕ) → j < m.columns → has taken j ≡ false → count_at j ≡ candidate_count m j rows) → IsBest taken count_at n (Some choice) → IsChosen m (in_set taken) rows choice.column
+best_chosen m taken rows count_at n choice all each h =
+    let within = h.within in
+    let count = h.count in
+    let own = each choice.column (omega arith) h.outside in
+    record {
+      within = omega arith;
+      outside = outside taken choice.column h.outside;
+      fewest = λ j under out. let few = h.fewest j (omega arith) (outside_is (has taken j) out) in let at = each j under (outside_is (has taken j) out) in omega arith;
+      lowest = λ j under out. let few = h.lowest j under (outside_is (has taken j) out) in let at = each j (omega arith) (outside_is (has taken j) out) in omega arith;
     }
-    in
-    inr (subst (FailsBy m budget (in_set taken) rows) (sym fails.0) wide)
 
-pub narrow_outside : (m : Matrix) (taken : List Bool) (rows : List (List ℕ)) → ((j : ℕ) → j < m.columns → has taken j ≡ false → AreNarrowAt m j rows) → AreNarrowOutside m (in_set taken) rows
-narrow_outside m taken rows each j within out = each j within (outside_is (has taken j) out)
+pub best_counted : (m : Matrix) (taken : List Bool) (rows : List (List ℕ)) (count_at : ℕ → ℕ) (n : ℕ) (choice : Choice) → n ≡ m.columns → ((j : ℕ) → j < m.columns → has taken j ≡ false → count_at j ≡ candidate_count m j rows) → IsBest taken count_at n (Some choice) → choice.count ≡ candidate_count m choice.column rows
+best_counted m taken rows count_at n choice all each h = h.count ∙ each choice.column (let within = h.within in omega arith) h.outside

@@ -12,12 +12,13 @@ use Rattle.semiflow_elim.specs.Bases.{IsBasis, HasBelow, IsGood}
 use Rattle.semiflow_elim.specs.Candidates.{signs_total}
 use Rattle.semiflow_elim.specs.Elimination.{row_of}
 use Rattle.semiflow_elim.specs.Kept.{Stays, AreKept}
+use Rattle.semiflow_elim.specs.declared.carried.ColumnSums.{ColumnSums}
 use Rattle.semiflow_elim.specs.declared.signs.RowSums.{RowSums}
 use Rattle.semiflow_elim.proofs.Adjacency.{adjacent_basis, zero_row_good, joined_row_good, zeros_apart, zero_joined_apart}
 use Rattle.semiflow_elim.proofs.Offers.{all_offers_whole}
 use Rattle.semiflow_elim.proofs.CandidateLemmas.{Extends}
 
-module _ (m : Matrix) (c : ℕ) (rows joined new : List (List ℕ)) (sums : List RowSums) (K K' : ℕ → Type 0) (more : Extends K c K') (basis : IsBasis m K rows) (column : c < m.columns) (added : IsAdded m c rows sums joined) (kept : AreKept sums (rows ++ joined) new) where
+module _ (m : Matrix) (c : ℕ) (rows joined new : List (List ℕ)) (sums : List RowSums) (K K' : ℕ → Type 0) (more : Extends K c K') (basis : IsBasis m K rows) (column : c < m.columns) (added : IsAdded m c rows sums joined) (old_carried carried : List (List ColumnSums)) (kept : AreKept sums (rows ++ joined) old_carried new carried) where
   -- row a of the list before those that go are gone
   old_row : (a : ℕ) → a < length rows → row_of (rows ++ joined) a ≡ row_of rows a
   old_row a under = get_or_append_left rows joined [] a under

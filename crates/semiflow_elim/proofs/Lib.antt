@@ -21,3 +21,7 @@ pub mod AdjacentLists
 pub mod Unions
 pub mod Moves
 pub mod Keeps
+pub mod CarriedSums
+pub mod Counting
+pub mod Carrying
+pub mod CountedSigns

@@ -5,8 +5,10 @@ use Rattle.std.proofs.lemmas.List.{get_or_default, get_or_append_left, get_or_pu
 use Rattle.std.proofs.lemmas.List.Sums.{sum_by-cons}
 use Rattle.incidence.specs.Matrix.{Matrix, AreNarrow, gain_sum, loss_sum}
 use Rattle.semiflow_elim.specs.Bases.{IsBasis, in_set}
-use Rattle.semiflow_elim.specs.Candidates.{IsStep, AreSums, HasLargest, HasSums, sums_of, signs_total}
-use Rattle.semiflow_elim.specs.Elimination.{candidate_count, is_zero, is_positive, is_negative, row_of}
+use Rattle.semiflow_elim.specs.Candidates.{IsStep, AreSums, AreRead, IsRead, sums_of, signs_total}
+use Rattle.semiflow_elim.specs.Elimination.{AreNarrowAt, candidate_count, is_zero, is_positive, is_negative, row_of}
+use Rattle.semiflow_elim.specs.Carried.{CarryTheirs, list_of, sums_in}
+use Rattle.semiflow_elim.specs.declared.carried.ColumnSums.{ColumnSums}
 use Rattle.semiflow_elim.specs.declared.signs.RowSums.{RowSums}
 
 pub counts_same : {X Y : Type 0} (p : X → Bool) (q : Y → Bool) (xs : List X) (ys : List Y) → length xs ≡ length ys → ((k : ℕ) (d : X) (e : Y) → k < length xs → p (get_or xs k d) ≡ q (get_or ys k e)) → count_by p xs ≡ count_by q ys
@@ -57,33 +59,37 @@ module _ (m : Matrix) (c : ℕ) (rows : List (List ℕ)) (sums : List RowSums) (
   }
 
 -- the sums of one more row
-pub sums_none : (m : Matrix) (c : ℕ) (rows : List (List ℕ)) → AreSums m c rows [] 0
-sums_none m c rows = record {
-  size = refl;
-  gains = λ k under. absurd (omega arith);
-  losses = λ k under. absurd (omega arith);
-  narrow = λ k under. absurd (omega arith);
-  largest = λ k under. absurd (omega arith);
-}
+pub read_none : (c : ℕ) (rows : List (List ℕ)) (carried : List (List ColumnSums)) → AreRead c rows carried [] 0
+read_none c rows carried = record { size = refl; each = λ k under. absurd (omega arith) }
 
-pub sums_more : (m : Matrix) (c : ℕ) (rows : List (List ℕ)) (sums : List RowSums) (n : ℕ) (own : RowSums) → AreSums m c rows sums n → HasSums m c (row_of rows n) own → AreSums m c rows (sums ++ own ∷ []) (n + 1)
-sums_more m c rows sums n own h has =
+pub read_more : (c : ℕ) (rows : List (List ℕ)) (carried : List (List ColumnSums)) (sums : List RowSums) (n : ℕ) (own : RowSums) → AreRead c rows carried sums n → IsRead (row_of rows n) (sums_in (list_of carried n) c) own → AreRead c rows carried (sums ++ own ∷ []) (n + 1)
+read_more c rows carried sums n own h has =
     let size = h.size in
     let pushed : length (sums ++ own ∷ []) ≡ length sums + 1 = length_push sums own in
-    let old : (k : ℕ) → k < n → sums_of sums k ≡ sums_of (sums ++ own ∷ []) k =
-    λ k under. sym (get_or_append_left sums (own ∷ []) record { gain = 0; loss = 0; largest = 0 } k (omega arith))
-    in
-    let new : own ≡ sums_of (sums ++ own ∷ []) n = sym (get_or_push sums own record { gain = 0; loss = 0; largest = 0 } n size) in
-    let each : (P : ℕ → RowSums → Type 0) → ((k : ℕ) → k < n → P k (sums_of sums k)) → P n own → (k : ℕ) → k < n + 1 → P k (sums_of (sums ++ own ∷ []) k) =
-    λ P front last k under. elim (cases_lt k n) [
-      | inl below ↦ subst (P k) (old k below) (front k below)
-      | inr above ↦ let same : n ≡ k = omega arith in subst (λ (j : ℕ). P j (sums_of (sums ++ own ∷ []) j)) same (subst (P n) new last)
+    record {
+      size = omega arith;
+      each = λ k under. elim (cases_lt k n) [
+        | inl below ↦ subst (IsRead (row_of rows k) (sums_in (list_of carried k) c)) (sym (get_or_append_left sums (own ∷ []) record { gain = 0; loss = 0; largest = 0 } k (omega arith))) (h.each k below)
+        | inr above ↦
+            let same : n ≡ k = omega arith in
+            subst (λ (j : ℕ). IsRead (row_of rows j) (sums_in (list_of carried j) c) (sums_of (sums ++ own ∷ []) j)) same
+            (subst (IsRead (row_of rows n) (sums_in (list_of carried n) c)) (sym (get_or_push sums own record { gain = 0; loss = 0; largest = 0 } n size)) has)
+      ];
+    }
+
+-- where no sum at the column is wide, they are the sums of the rows
+pub read_sums : (m : Matrix) (K : ℕ → Type 0) (c : ℕ) (rows : List (List ℕ)) (carried : List (List ColumnSums)) (sums : List RowSums) → CarryTheirs m K rows carried → c < m.columns → (K c → ⊥) → AreNarrowAt m c rows → AreRead c rows carried sums (length rows) → AreSums m c rows sums (length rows)
+read_sums m K c rows carried sums theirs within out narrow h =
+    let at : (k : ℕ) → k < length rows → ((sums_in (list_of carried k) c).gain ≡ gain_sum m c (slice_index (row_of rows k))) × ((sums_in (list_of carried k) c).loss ≡ loss_sum m c (slice_index (row_of rows k))) =
+    λ k under. elim ((theirs.each k under).each c within out) [
+      | inl exact ↦ (exact.1, exact.2)
+      | inr wide ↦ absurd (wide.0 (narrow k [] under))
     ]
     in
     record {
-      size = omega arith;
-      gains = each (λ k sums. sums.gain ≡ gain_sum m c (slice_index (row_of rows k))) h.gains has.gain;
-      losses = each (λ k sums. sums.loss ≡ loss_sum m c (slice_index (row_of rows k))) h.losses has.loss;
-      narrow = each (λ k sums. AreNarrow m c (slice_index (row_of rows k))) h.narrow has.narrow;
-      largest = each (λ k sums. HasLargest (row_of rows k) sums) h.largest has.largest;
+      size = h.size;
+      gains = λ k under. (h.each k under).gain ∙ (at k under).0;
+      losses = λ k under. (h.each k under).loss ∙ (at k under).1;
+      narrow = λ k under. narrow k [] under;
+      largest = λ k under. (h.each k under).largest;
     }

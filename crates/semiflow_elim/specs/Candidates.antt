@@ -3,9 +3,11 @@
 use Rattle.std.specs.Prelude.{◌≡◌, ℕ, ◌+◌, ◌*◌, ◌/◌, ◌^◌, ◌<◌, ◌≤◌, ◌==◌, if◌then◌else◌, nat_lt, count_by, Bool, List, length, slice_index, slice_index_or, take}
 use Rattle.std.specs.Int.{IsGcd}
 use Rattle.incidence.specs.Matrix.{Matrix, AreNarrow, gain_sum, loss_sum}
+use Rattle.semiflow_elim.specs.declared.carried.ColumnSums.{ColumnSums}
 use Rattle.semiflow_elim.specs.declared.signs.RowSums.{RowSums}
 use Rattle.semiflow_elim.specs.Arithmetic.{IsScaledSum, IsGcdOfAll, HasWideEntry}
 use Rattle.semiflow_elim.specs.Bases.{IsBasis, in_set}
+use Rattle.semiflow_elim.specs.Carried.{list_of, sums_in}
 use Rattle.semiflow_elim.specs.Elimination.{row_of}
 
 -- the combination of two rows by their differences a and b, divided by the greatest common divisor of its
@@ -38,12 +40,16 @@ sums_of sums k = slice_index_or sums k record { gain = 0; loss = 0; largest = 0 
 abbrev pub HasLargest : List ℕ → RowSums → Type 0
 HasLargest row own = (own.gain ≡ own.loss → ⊥) → (i : ℕ) → slice_index row i ≤ own.largest
 
--- the sums of one row, which are narrow
-pub record HasSums (m : Matrix) (c : ℕ) (row : List ℕ) (own : RowSums) : Type 0 where
-  pub gain : own.gain ≡ gain_sum m c (slice_index row)
-  pub loss : own.loss ≡ loss_sum m c (slice_index row)
-  pub narrow : AreNarrow m c (slice_index row)
+-- the sums of one row at a column, read from what it carries
+pub record IsRead (row : List ℕ) (carried : ColumnSums) (own : RowSums) : Type 0 where
+  pub gain : own.gain ≡ carried.gain
+  pub loss : own.loss ≡ carried.loss
   pub largest : HasLargest row own
+
+-- those of the first n rows
+pub record AreRead (c : ℕ) (rows : List (List ℕ)) (carried : List (List ColumnSums)) (sums : List RowSums) (n : ℕ) : Type 0 where
+  pub size : length sums ≡ n
+  pub each : (k : ℕ) → k < n → IsRead (row_of rows k) (sums_in (list_of carried k) c) (sums_of sums k)
 
 -- the rows of a step from some set of columns with their sums at the column of the step
 pub record IsStep (m : Matrix) (c : ℕ) (rows : List (List ℕ)) (sums : List RowSums) : Type 0 where
@@ -63,7 +69,7 @@ pub record AreSums (m : Matrix) (c : ℕ) (rows : List (List ℕ)) (sums : List 
   pub narrow : (k : ℕ) → k < n → AreNarrow m c (slice_index (row_of rows k))
   pub largest : (k : ℕ) → k < n → HasLargest (row_of rows k) (sums_of sums k)
 
--- the candidate count, read off the sums
+-- the number of zero rows and of pairs
 abbrev pub signs_total : List RowSums → ℕ
 signs_total sums = count_by (λ own. own.gain == own.loss) sums + count_by (λ own. nat_lt own.loss own.gain) sums * count_by (λ own. nat_lt own.gain own.loss) sums
 

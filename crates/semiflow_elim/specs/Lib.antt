@@ -10,3 +10,5 @@ pub mod Adjacent
 pub mod Kept
 pub mod Added
 pub mod Choices
+pub mod Carried
+pub mod Counts

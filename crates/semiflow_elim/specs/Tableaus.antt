@@ -3,6 +3,8 @@ use Rattle.std.specs.Prelude.{◌≡◌, ℕ, ◌^◌, ◌<◌, ◌≤◌, Bool,
 use Rattle.net_values.specs.declared.limits.TheConstants.{MAX_ENTRIES}
 use Rattle.incidence.specs.Tables.{Tables, matrix_of}
 use Rattle.semiflow_elim.specs.Bases.{IsBasis, in_set}
+use Rattle.semiflow_elim.specs.Carried.{CarryTheirs}
+use Rattle.semiflow_elim.specs.declared.carried.ColumnSums.{ColumnSums}
 
 pub record TableauValue : Type 0 where
   pub tables : Tables
@@ -13,10 +15,12 @@ pub record TableauValue : Type 0 where
 abbrev pub size_of : List Bool → ℕ
 size_of taken = count_by (λ member. member) taken
 
--- the rows are a basis of the semiflows over the columns that were taken, which are this many
-pub record IsTableau (t : TableauValue) (done : ℕ) : Type 0 where
+-- the rows are a basis of the semiflows over the columns that were taken, which are this many, and carry their sums
+-- at the others
+pub record IsTableau (t : TableauValue) (done : ℕ) (carried : List (List ColumnSums)) : Type 0 where
   pub columns : length t.taken ≡ (matrix_of t.tables).columns
   pub count : done ≡ size_of t.taken
   pub basis : IsBasis (matrix_of t.tables) (in_set t.taken) t.rows
+  pub sums : CarryTheirs (matrix_of t.tables) (in_set t.taken) t.rows carried
   pub short : (matrix_of t.tables).columns ≤ MAX_ENTRIES
   pub few : length t.rows < 2 ^ 32

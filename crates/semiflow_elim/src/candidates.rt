@@ -2,11 +2,15 @@ ghost use Rattle.std.specs.Prelude.{◌≡◌, ℕ, ◌+◌, ◌-◌, ◌<◌, �
 ghost use Rattle.std.specs.Prelude.{IfOk, OnOk, IfErr, length, slice_index};
 ghost use Rattle.incidence.specs.Tables.{matrix_of};
 ghost use Rattle.semiflow_elim.specs.Adjacent.{AreJoined};
+ghost use Rattle.semiflow_elim.specs.Bases.{in_set};
+ghost use Rattle.semiflow_elim.specs.Carried.{CarryTheirs};
 ghost use Rattle.semiflow_elim.specs.Candidates.{IsCombined, IsNarrowCombination, IsWideCombination, IsStep, sums_of};
 ghost use Rattle.semiflow_elim.specs.Candidates.{pair_offers, row_offers, all_offers};
 ghost use Rattle.semiflow_elim.specs.Elimination.{IsWidePair, row_of};
 
 use crate::adjacent::are_adjacent;
+use crate::carried::carried_sums;
+use crate::carried_rows::CarriedRows;
 use crate::row_arithmetic::{RowFault, divide_all, gcd, gcd_of_all, scaled_entry, scaled_sum};
 use crate::signs::RowSums;
 use crate::step::Step;
@@ -14,18 +18,21 @@ use net_values::Vector;
 use std::alloc::Global;
 
 /// The combinations of all adjacent pairs. No pair may have a wide one, adjacent or not.
-pub(crate) fn join_all(alloc: Global, step: &Step<'_>) -> Result<Vec<Vector>, RowFault>
-    requires { let given = step.now in
+pub(crate) fn join_all(alloc: Global, step: &Step<'_>) -> Result<CarriedRows, RowFault>
+    requires step { let given = step.now in
         IsStep (matrix_of given.matrix.now) given.column given.rows.now given.sums.now }
+    requires after { length step.now.after.now ≡ (matrix_of step.now.matrix.now).columns }
     ensures joined { let given = step.now in IfOk result (λ joined.
-        AreJoined (matrix_of given.matrix.now) given.column given.rows.now joined.items (length given.rows.now) 0) }
+        AreJoined (matrix_of given.matrix.now) given.column given.rows.now joined.vectors.items (length given.rows.now) 0) }
+    ensures carried { let given = step.now in IfOk result (λ joined.
+        CarryTheirs (matrix_of given.matrix.now) (in_set given.after.now) joined.vectors.items joined.sums.items) }
     ensures count { IfOk result (λ joined.
-        length joined.items ≤ all_offers step.now.sums.now (length step.now.rows.now)) }
+        length joined.vectors.items ≤ all_offers step.now.sums.now (length step.now.rows.now)) }
     ensures wide { let given = step.now in IfErr result (λ fault. fault ≡ RowFault.Wide →
         (i : ℕ) × (k : ℕ) × (i < length given.rows.now) × (k < length given.rows.now) ×
         IsWidePair (matrix_of given.matrix.now) given.column (row_of given.rows.now i) (row_of given.rows.now k)) }
 {
-    let mut joined = Vec::new(alloc);
+    let mut joined = CarriedRows::new(alloc);
     for i in 0..step.rows.len() {
         join_pairs(alloc, step, &mut joined, i)?;
     }
@@ -36,18 +43,23 @@ pub(crate) fn join_all(alloc: Global, step: &Step<'_>) -> Result<Vec<Vector>, Ro
 fn join_pairs(
     alloc: Global,
     step: &Step<'_>,
-    joined: &mut Vec<Vector>,
+    joined: &mut CarriedRows,
     i: usize,
 ) -> Result<(), RowFault>
     requires step { let given = step.now in
         IsStep (matrix_of given.matrix.now) given.column given.rows.now given.sums.now }
+    requires after { length step.now.after.now ≡ (matrix_of step.now.matrix.now).columns }
     requires joined { let given = step.now in
-        AreJoined (matrix_of given.matrix.now) given.column given.rows.now joined.old.items i 0 }
+        AreJoined (matrix_of given.matrix.now) given.column given.rows.now joined.old.vectors.items i 0 }
+    requires carried { let given = step.now in
+        CarryTheirs (matrix_of given.matrix.now) (in_set given.after.now) joined.old.vectors.items joined.old.sums.items }
     requires first { i < length step.now.rows.now }
     ensures joined { let given = step.now in OnOk result
-        (AreJoined (matrix_of given.matrix.now) given.column given.rows.now joined.new.items (i + 1) 0) }
+        (AreJoined (matrix_of given.matrix.now) given.column given.rows.now joined.new.vectors.items (i + 1) 0) }
+    ensures carried { let given = step.now in OnOk result
+        (CarryTheirs (matrix_of given.matrix.now) (in_set given.after.now) joined.new.vectors.items joined.new.sums.items) }
     ensures count { let given = step.now in OnOk result
-        (length joined.new.items ≤ length joined.old.items + row_offers (sums_of given.sums.now i) given.sums.now (length given.rows.now)) }
+        (length joined.new.vectors.items ≤ length joined.old.vectors.items + row_offers (sums_of given.sums.now i) given.sums.now (length given.rows.now)) }
     ensures wide { let given = step.now in IfErr result (λ fault. fault ≡ RowFault.Wide →
         (k : ℕ) × (k < length given.rows.now) ×
         IsWidePair (matrix_of given.matrix.now) given.column (row_of given.rows.now i) (row_of given.rows.now k)) }
@@ -66,20 +78,25 @@ fn join_pairs(
 fn join_pair(
     alloc: Global,
     step: &Step<'_>,
-    joined: &mut Vec<Vector>,
+    joined: &mut CarriedRows,
     i: usize,
     k: usize,
 ) -> Result<(), RowFault>
     requires step { let given = step.now in
         IsStep (matrix_of given.matrix.now) given.column given.rows.now given.sums.now }
+    requires after { length step.now.after.now ≡ (matrix_of step.now.matrix.now).columns }
     requires joined { let given = step.now in
-        AreJoined (matrix_of given.matrix.now) given.column given.rows.now joined.old.items i k }
+        AreJoined (matrix_of given.matrix.now) given.column given.rows.now joined.old.vectors.items i k }
+    requires carried { let given = step.now in
+        CarryTheirs (matrix_of given.matrix.now) (in_set given.after.now) joined.old.vectors.items joined.old.sums.items }
     requires first { i < length step.now.rows.now }
     requires second { k < length step.now.rows.now }
     ensures joined { let given = step.now in OnOk result
-        (AreJoined (matrix_of given.matrix.now) given.column given.rows.now joined.new.items i (k + 1)) }
+        (AreJoined (matrix_of given.matrix.now) given.column given.rows.now joined.new.vectors.items i (k + 1)) }
+    ensures carried { let given = step.now in OnOk result
+        (CarryTheirs (matrix_of given.matrix.now) (in_set given.after.now) joined.new.vectors.items joined.new.sums.items) }
     ensures count { OnOk result
-        (length joined.new.items ≤ length joined.old.items + pair_offers (sums_of step.now.sums.now i) (sums_of step.now.sums.now k)) }
+        (length joined.new.vectors.items ≤ length joined.old.vectors.items + pair_offers (sums_of step.now.sums.now i) (sums_of step.now.sums.now k)) }
     ensures wide { let given = step.now in IfErr result (λ fault. fault ≡ RowFault.Wide →
         IsWidePair (matrix_of given.matrix.now) given.column (row_of given.rows.now i) (row_of given.rows.now k)) }
 {
@@ -99,7 +116,10 @@ fn join_pair(
         first.gain - first.loss,
         second.loss - second.gain,
     )?;
-    if joined.push(row).is_err() {
+    let Ok(sums) = carried_sums(alloc, step.matrix, step.after, &row) else {
+        return Err(RowFault::NoMemory);
+    };
+    if joined.push(row, sums).is_err() {
         return Err(RowFault::NoMemory);
     }
     Ok(())

@@ -1,15 +1,18 @@
-ghost use Rattle.std.specs.Prelude.{◌≡◌, ℕ, ◌+◌, ◌<◌, ◌^◌, ◌⊎◌, Bool, List, false};
-ghost use Rattle.std.specs.Prelude.{IfOk, OnOk, IfErr, All, length};
+ghost use Rattle.std.specs.Prelude.{◌≡◌, ℕ, ◌+◌, ◌-◌, ◌*◌, ◌<◌, ◌≤◌, ◌^◌, ◌⊎◌, Bool, List, Some, false};
+ghost use Rattle.std.specs.Prelude.{IfOk, OnOk, IfErr, length};
 ghost use Rattle.net_values.specs.PlaceSets.{has};
 ghost use Rattle.incidence.specs.Tables.{matrix_of};
 ghost use Rattle.semiflow_elim.specs.Bases.{in_set};
-ghost use Rattle.semiflow_elim.specs.Choices.{IsBest};
+ghost use Rattle.semiflow_elim.specs.Carried.{CarryTheirs};
+ghost use Rattle.semiflow_elim.specs.Choices.{IsBest, NoneWide, IsFirstCounted};
+ghost use Rattle.semiflow_elim.specs.Counts.{candidates_at, counts_of};
 ghost use Rattle.semiflow_elim.specs.Elimination.{AreNarrowOutside, FailsBy, IsChosen, candidate_count};
 
+use crate::carried_rows::CarriedRows;
+use crate::counts::{ColumnCounts, count_signs};
 use crate::fault::ElimFault;
-use crate::signs::{candidate_total, row_sums};
 use incidence::Incidence;
-use net_values::{PlaceSet, Vector};
+use net_values::PlaceSet;
 use std::alloc::Global;
 
 /// A column with the number of its candidates.
@@ -25,31 +28,63 @@ pub(crate) fn chosen_column(
     alloc: Global,
     matrix: &Incidence,
     taken: &PlaceSet,
-    rows: &[Vector],
+    rows: &CarriedRows,
 ) -> Result<Choice, ElimFault>
     requires columns { length taken.now ≡ (matrix_of matrix.now).columns }
     requires left { (j : ℕ) × (j < length taken.now) × (has taken.now j ≡ false) }
-    requires size { All (λ row. length row ≡ (matrix_of matrix.now).rows) rows.now }
-    requires few { length rows.now < 2 ^ 32 }
+    requires carried { CarryTheirs (matrix_of matrix.now) (in_set taken.now) rows.now.vectors.items rows.now.sums.items }
+    requires few { length rows.now.vectors.items < 2 ^ 32 }
     ensures chosen { IfOk result (λ choice.
-        IsChosen (matrix_of matrix.now) (in_set taken.now) rows.now choice.column) }
+        IsChosen (matrix_of matrix.now) (in_set taken.now) rows.now.vectors.items choice.column) }
     ensures count { IfOk result (λ choice.
-        choice.count ≡ candidate_count (matrix_of matrix.now) choice.column rows.now) }
-    ensures narrow { OnOk result (AreNarrowOutside (matrix_of matrix.now) (in_set taken.now) rows.now) }
+        choice.count ≡ candidate_count (matrix_of matrix.now) choice.column rows.now.vectors.items) }
+    ensures narrow { OnOk result (AreNarrowOutside (matrix_of matrix.now) (in_set taken.now) rows.now.vectors.items) }
     ensures fails { (budget : ℕ) → IfErr result (λ fault. (fault ≡ ElimFault.NoMemory) ⊎
-        FailsBy (matrix_of matrix.now) budget (in_set taken.now) rows.now fault) }
+        FailsBy (matrix_of matrix.now) budget (in_set taken.now) rows.now.vectors.items fault) }
+{
+    let Ok(counts) = count_signs(alloc, matrix.columns(), rows.sums.as_slice()) else {
+        return Err(ElimFault::NoMemory);
+    };
+    match best_of(counts.as_slice(), taken, rows.sums.len()) {
+        Ok(choice) => Ok(choice),
+        Err(column) => Err(ElimFault::WideSum(column)),
+    }
+}
+
+/// The column outside a set with the fewest candidates, or the lowest one with a wide sum.
+fn best_of(counts: &[ColumnCounts], taken: &PlaceSet, total: usize) -> Result<Choice, usize>
+    requires columns { length taken.now ≡ length counts.now }
+    requires left { (j : ℕ) × (j < length taken.now) × (has taken.now j ≡ false) }
+    requires few { total < 2 ^ 32 }
+    requires within { (j : ℕ) → j < length counts.now →
+        (counts_of counts.now j).positive + (counts_of counts.now j).negative ≤ total }
+    ensures best { IfOk result (λ choice.
+        IsBest taken.now (candidates_at counts.now total) (length counts.now) (Some choice)) }
+    ensures narrow { OnOk result (NoneWide taken.now counts.now (length counts.now)) }
+    ensures wide { IfErr result (λ column. IsFirstCounted taken.now counts.now column) }
 {
     let mut best = None;
-    for j in 0..matrix.columns() {
+    for j in 0..counts.len() {
         if !taken.contains(j) {
-            let sums = row_sums(alloc, matrix, j, rows)?;
-            best = Some(better(best, j, candidate_total(sums.as_slice())));
+            if counts[j].wide > 0 {
+                return Err(j);
+            }
+            best = Some(better(best, j, candidates(counts[j], total as u64)));
         }
     }
     match best {
         Some(choice) => Ok(choice),
         None => unreachable!(),
     }
+}
+
+/// The number of candidates of a column, of so many rows in all.
+fn candidates(own: ColumnCounts, total: u64) -> u64
+    requires few { total < 2 ^ 32 }
+    requires within { own.positive + own.negative ≤ total }
+    ensures { result ≡ (total - (own.positive + own.negative)) + own.positive * own.negative }
+{
+    total - (own.positive + own.negative) + own.positive * own.negative
 }
 
 /// The better of the best choice so far and a higher column.

@@ -5,7 +5,10 @@
 
 mod adjacent;
 mod candidates;
+mod carried;
+mod carried_rows;
 mod choice;
+mod counts;
 mod elimination;
 mod fault;
 mod kept;

@@ -1,12 +1,14 @@
 use crate::signs::RowSums;
 use incidence::Incidence;
-use net_values::Vector;
+use net_values::{PlaceSet, Vector};
 
-/// A step of an elimination: the rows over the columns that were taken, and their two sums at the next one.
+/// A step of an elimination: its column, the set of columns that are taken after it, the rows over those that were
+/// taken before, and their two sums at the column.
 #[derive(Clone, Copy)]
 pub(crate) struct Step<'a> {
     pub matrix: &'a Incidence,
     pub column: usize,
+    pub after: &'a PlaceSet,
     pub rows: &'a [Vector],
     pub sums: &'a [RowSums],
 }

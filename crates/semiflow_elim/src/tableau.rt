@@ -1,14 +1,17 @@
 ghost use Rattle.std.specs.Prelude.{◌≡◌, ℕ, ◌+◌, ◌<◌, ◌≤◌, ◌^◌, ◌⊎◌, IfOk, OnOk, OnErr, IfErr};
-ghost use Rattle.std.specs.Prelude.{false, true, length, replicate, slice_set};
+ghost use Rattle.std.specs.Prelude.{All, false, true, length, replicate, slice_set};
 ghost use Rattle.net_values.specs.PlaceSets.{has};
 ghost use Rattle.incidence.specs.Tables.{matrix_of};
 ghost use Rattle.semiflow_elim.specs.Added.{IsAdded};
 ghost use Rattle.semiflow_elim.specs.Bases.{IsBasis, AreMinimal, AreUnits, in_set};
 ghost use Rattle.semiflow_elim.specs.Candidates.{signs_total};
+ghost use Rattle.semiflow_elim.specs.Carried.{CarryTheirs};
 ghost use Rattle.semiflow_elim.specs.Elimination.{Passes, FailsBy};
 ghost use Rattle.semiflow_elim.specs.Tableaus.{size_of};
 
 use crate::candidates::join_all;
+use crate::carried::{ColumnSums, carried_sums};
+use crate::carried_rows::CarriedRows;
 use crate::choice::chosen_column;
 use crate::fault::ElimFault;
 use crate::kept::keep_zeros;
@@ -16,7 +19,7 @@ use crate::row_arithmetic::RowFault;
 use crate::signs::{RowSums, row_sums};
 use crate::step::Step;
 use incidence::Incidence;
-use net_values::{MAX_ENTRIES, NoMemory, PlaceSet, Rows, Vector};
+use net_values::{List, MAX_ENTRIES, NoMemory, PlaceSet, Rows, Vector};
 use std::alloc::Global;
 use std::marker::Model;
 
@@ -27,7 +30,7 @@ pub struct Tableau<'m> {
     alloc: Global,
     taken: PlaceSet,
     done: usize,
-    rows: Vec<Vector>,
+    rows: CarriedRows,
 }
 
 impl<'m> Model for Tableau<'m> {
@@ -35,13 +38,13 @@ impl<'m> Model for Tableau<'m> {
 
     ghost Value = { TableauValue };
 
-    ghost view = { λ t. record { tables = t.matrix.now; taken = t.taken; rows = t.rows.items } };
+    ghost view = { λ t. record { tables = t.matrix.now; taken = t.taken; rows = t.rows.vectors.items } };
 
     ghost invariant = { λ t. IsTableau record {
       tables = t.matrix.now;
       taken = t.taken;
-      rows = t.rows.items;
-    } t.done };
+      rows = t.rows.vectors.items;
+    } t.done t.rows.sums.items };
 }
 
 impl<'m> Tableau<'m> {
@@ -51,14 +54,15 @@ impl<'m> Tableau<'m> {
         ensures none { IfOk result (λ tableau.
             tableau.taken ≡ replicate (matrix_of matrix.now).columns false) }
     {
-        let rows = unit_rows(alloc, matrix.rows())?;
         let taken = PlaceSet::new(alloc, matrix.columns())?;
+        let vectors = unit_rows(alloc, matrix.rows())?;
+        let sums = all_sums(alloc, matrix, &taken, vectors.as_slice())?;
         Ok(Tableau {
             matrix,
             alloc,
             taken,
             done: 0,
-            rows,
+            rows: CarriedRows { vectors, sums },
         })
     }
 
@@ -107,7 +111,8 @@ impl<'m> Tableau<'m> {
         ensures minimal { AreMinimal (matrix_of self.entry.tables) (in_set self.entry.taken) self.entry.rows }
         ensures basis { IsBasis (matrix_of self.entry.tables) (in_set self.entry.taken) self.entry.rows }
     {
-        Rows::from_members(self.rows)
+        let rows = self.rows;
+        Rows::from_members(rows.vectors)
     }
 }
 
@@ -117,29 +122,33 @@ fn take_column(
     alloc: Global,
     matrix: &Incidence,
     taken: &PlaceSet,
-    rows: &mut Vec<Vector>,
+    rows: &mut CarriedRows,
     budget: u32,
 ) -> Result<usize, ElimFault>
     requires columns { length taken.now ≡ (matrix_of matrix.now).columns }
     requires left { (j : ℕ) × (j < length taken.now) × (has taken.now j ≡ false) }
-    requires basis { IsBasis (matrix_of matrix.now) (in_set taken.now) rows.old.items }
-    requires few { length rows.old.items < 2 ^ 32 }
+    requires basis { IsBasis (matrix_of matrix.now) (in_set taken.now) rows.old.vectors.items }
+    requires carried { CarryTheirs (matrix_of matrix.now) (in_set taken.now) rows.old.vectors.items rows.old.sums.items }
+    requires few { length rows.old.vectors.items < 2 ^ 32 }
     ensures basis { IfOk result (λ column.
-        IsBasis (matrix_of matrix.now) (in_set (slice_set taken.now column true)) rows.new.items) }
-    ensures few { OnOk result (length rows.new.items < 2 ^ 32) }
+        IsBasis (matrix_of matrix.now) (in_set (slice_set taken.now column true)) rows.new.vectors.items) }
+    ensures carried { IfOk result (λ column.
+        CarryTheirs (matrix_of matrix.now) (in_set (slice_set taken.now column true)) rows.new.vectors.items rows.new.sums.items) }
+    ensures few { OnOk result (length rows.new.vectors.items < 2 ^ 32) }
     ensures passes { IfOk result (λ column.
-        Passes (matrix_of matrix.now) budget (in_set taken.now) rows.old.items column) }
-    ensures err { OnErr result (rows.new.items ≡ rows.old.items) }
+        Passes (matrix_of matrix.now) budget (in_set taken.now) rows.old.vectors.items column) }
+    ensures same_vectors { OnErr result (rows.new.vectors.items ≡ rows.old.vectors.items) }
+    ensures same_sums { OnErr result (rows.new.sums.items ≡ rows.old.sums.items) }
     ensures fails { IfErr result (λ fault. (fault ≡ ElimFault.NoMemory) ⊎
-        FailsBy (matrix_of matrix.now) budget (in_set taken.now) rows.old.items fault) }
+        FailsBy (matrix_of matrix.now) budget (in_set taken.now) rows.old.vectors.items fault) }
 {
-    let added = added_rows(alloc, matrix, taken, rows.as_slice(), budget)?;
+    let added = added_rows(alloc, matrix, taken, rows, budget)?;
     let Added {
         column,
         sums,
-        mut joined,
+        joined,
     } = added;
-    if rows.append(&mut joined).is_err() {
+    if rows.append(joined).is_err() {
         return Err(ElimFault::NoMemory);
     }
     keep_zeros(rows, sums.as_slice());
@@ -150,7 +159,7 @@ fn take_column(
 struct Added {
     column: usize,
     sums: Vec<RowSums>,
-    joined: Vec<Vector>,
+    joined: CarriedRows,
 }
 
 /// What the step from a set of columns adds.
@@ -158,31 +167,41 @@ fn added_rows(
     alloc: Global,
     matrix: &Incidence,
     taken: &PlaceSet,
-    rows: &[Vector],
+    rows: &CarriedRows,
     budget: u32,
 ) -> Result<Added, ElimFault>
     requires columns { length taken.now ≡ (matrix_of matrix.now).columns }
     requires left { (j : ℕ) × (j < length taken.now) × (has taken.now j ≡ false) }
-    requires basis { IsBasis (matrix_of matrix.now) (in_set taken.now) rows.now }
-    requires few { length rows.now < 2 ^ 32 }
+    requires basis { IsBasis (matrix_of matrix.now) (in_set taken.now) rows.now.vectors.items }
+    requires carried { CarryTheirs (matrix_of matrix.now) (in_set taken.now) rows.now.vectors.items rows.now.sums.items }
+    requires few { length rows.now.vectors.items < 2 ^ 32 }
     ensures added { IfOk result (λ added.
-        IsAdded (matrix_of matrix.now) added.column rows.now added.sums.items added.joined.items) }
+        IsAdded (matrix_of matrix.now) added.column rows.now.vectors.items added.sums.items added.joined.vectors.items) }
+    ensures carried { IfOk result (λ added. CarryTheirs (matrix_of matrix.now)
+        (in_set (slice_set taken.now added.column true)) added.joined.vectors.items added.joined.sums.items) }
     ensures budget { IfOk result (λ added. signs_total added.sums.items ≤ budget) }
     ensures passes { IfOk result (λ added.
-        Passes (matrix_of matrix.now) budget (in_set taken.now) rows.now added.column) }
+        Passes (matrix_of matrix.now) budget (in_set taken.now) rows.now.vectors.items added.column) }
     ensures fails { IfErr result (λ fault. (fault ≡ ElimFault.NoMemory) ⊎
-        FailsBy (matrix_of matrix.now) budget (in_set taken.now) rows.now fault) }
+        FailsBy (matrix_of matrix.now) budget (in_set taken.now) rows.now.vectors.items fault) }
 {
     let choice = chosen_column(alloc, matrix, taken, rows)?;
     let column = choice.column;
     if choice.count > u64::from(budget) {
         return Err(ElimFault::RowBudget(column, choice.count));
     }
-    let sums = row_sums(alloc, matrix, column, rows)?;
+    let Ok(sums) = row_sums(alloc, column, rows) else {
+        return Err(ElimFault::NoMemory);
+    };
+    let Ok(mut after) = taken.copy(alloc) else {
+        return Err(ElimFault::NoMemory);
+    };
+    after.insert(column);
     let step = Step {
         matrix,
         column,
-        rows,
+        after: &after,
+        rows: rows.vectors.as_slice(),
         sums: sums.as_slice(),
     };
     match join_all(alloc, &step) {
@@ -194,6 +213,24 @@ fn added_rows(
         Err(RowFault::Wide) => Err(ElimFault::WideRow(column)),
         Err(RowFault::NoMemory) => Err(ElimFault::NoMemory),
     }
+}
+
+/// The sums of each row at each column outside a set.
+fn all_sums(
+    alloc: Global,
+    matrix: &Incidence,
+    taken: &PlaceSet,
+    rows: &[Vector],
+) -> Result<Vec<List<ColumnSums>>, NoMemory>
+    requires columns { length taken.now ≡ (matrix_of matrix.now).columns }
+    requires size { All (λ row. length row ≡ (matrix_of matrix.now).rows) rows.now }
+    ensures { IfOk result (λ sums. CarryTheirs (matrix_of matrix.now) (in_set taken.now) rows.now sums.items) }
+{
+    let mut sums = Vec::with_capacity(alloc, rows.len())?;
+    for row in rows {
+        sums.push(carried_sums(alloc, matrix, taken, row)?)?;
+    }
+    Ok(sums)
 }
 
 /// The rows with a 1 at one position each and 0 elsewhere.

@@ -6,7 +6,8 @@ use Rattle.semiflow_elim.proofs.candidates.join_all.Goals as goal
 pub loop-i-preserved : goal.loop-i-preserved
 loop-i-preserved c = record {
   joined = c.in_ok-join_pairs.ensures.joined;
-  count = all_offers_more c.args.step.now.sums.now c.loop-i.i (length c.args.step.now.rows.now) _ _ c.requires.size (let size = c.requires.size in omega arith) c.loop-i.invariant.count c.in_ok-join_pairs.ensures.count;
+  carried = c.in_ok-join_pairs.ensures.carried;
+  count = all_offers_more c.args.step.now.sums.now c.loop-i.i (length c.args.step.now.rows.now) _ _ c.requires.step.size (let size = c.requires.step.size in omega arith) c.loop-i.invariant.count c.in_ok-join_pairs.ensures.count;
 }
 
 pub returns-in_err-join_pairs-clause-wide : goal.returns-in_err-join_pairs-clause-wide

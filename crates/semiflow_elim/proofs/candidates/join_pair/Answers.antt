@@ -4,8 +4,10 @@ use Rattle.std.proofs.lemmas.Result.{err_from_is_err_and}
 use Rattle.incidence.specs.Tables.{matrix_of}
 use Rattle.semiflow_elim.specs.Adjacent.{AreJoined}
 use Rattle.semiflow_elim.specs.Bases.{in_set}
+use Rattle.semiflow_elim.specs.Carried.{CarryTheirs}
 use Rattle.semiflow_elim.specs.Elimination.{IsPair, row_of}
 use Rattle.semiflow_elim.proofs.AdjacentLists.{joined_skip, joined_more}
+use Rattle.semiflow_elim.proofs.Carrying.{carry_more}
 use Rattle.semiflow_elim.proofs.Pairs.{read_row, row_nonzero, pair_signs, pair_wide, pair_narrow, pair_combined}
 use Rattle.semiflow_elim.proofs.candidates.join_pair.Goals.{then-first-via-then-first, then-first-via-else-first+then-second}
 use Rattle.semiflow_elim.proofs.candidates.join_pair.Goals as goal
@@ -22,7 +24,7 @@ returns-then-first-clause-joined c =
       | then-first-via-else-first+then-second w ↦ let sign = w.if-second.true in omega arith
     ]
     in
-    joined_skip (matrix_of c.args.step.now.matrix.now) c.args.step.now.column c.args.step.now.rows.now c.args.joined.now.items c.args.i c.args.k (λ pair adjacent. no pair) (λ pair. absurd (no pair)) c.requires.joined
+    joined_skip (matrix_of c.args.step.now.matrix.now) c.args.step.now.column c.args.step.now.rows.now c.args.joined.now.vectors.items c.args.i c.args.k (λ pair adjacent. no pair) (λ pair. absurd (no pair)) c.requires.joined
 
 pub returns-in_err-refuse_wide-clause-wide : goal.returns-in_err-refuse_wide-clause-wide
 returns-in_err-refuse_wide-clause-wide c =
@@ -34,7 +36,7 @@ returns-in_err-refuse_wide-clause-wide c =
 
 pub returns-then-not-are_adjacent-clause-joined : goal.returns-then-not-are_adjacent-clause-joined
 returns-then-not-are_adjacent-clause-joined c =
-    joined_skip (matrix_of c.args.step.now.matrix.now) c.args.step.now.column c.args.step.now.rows.now c.args.joined.now.items c.args.i c.args.k
+    joined_skip (matrix_of c.args.step.now.matrix.now) c.args.step.now.column c.args.step.now.rows.now c.args.joined.now.vectors.items c.args.i c.args.k
     (λ pair adjacent. absurd (false≢true (sym c.if-not-are_adjacent.true ∙ c.are_adjacent.ensures.1 adjacent)))
     (λ pair. pair_narrow (matrix_of c.args.step.now.matrix.now) c.args.step.now.column c.args.step.now.rows.now c.args.step.now.sums.now c.args.i c.args.k c.index-rows-i.result c.index-rows-k.result c.requires.step c.requires.first c.requires.second
     (read_row c.args.step.now.rows.now c.args.i c.index-rows-i.result c.requires.first c.index-rows-i.is)
@@ -57,11 +59,21 @@ returns-in_err-row-clause-wide c =
 
 pub returns-clause-joined : goal.returns-clause-joined
 returns-clause-joined c =
-    let pushed : c.push.new.self.items ≡ c.args.joined.now.items ++ c.in_ok-row.row ∷ [] = search rules in
+    let pushed : c.push.new.self.vectors.items ≡ c.args.joined.now.vectors.items ++ c.in_ok-row.row ∷ [] = search rules in
     subst (λ (l : List (List ℕ)). AreJoined (matrix_of c.args.step.now.matrix.now) c.args.step.now.column c.args.step.now.rows.now l c.args.i (c.args.k + 1)) (sym pushed)
-    (joined_more (matrix_of c.args.step.now.matrix.now) c.args.step.now.column c.args.step.now.rows.now (in_set c.requires.step.taken) c.requires.step.basis c.args.joined.now.items c.args.i c.args.k c.in_ok-row.row
+    (joined_more (matrix_of c.args.step.now.matrix.now) c.args.step.now.column c.args.step.now.rows.now (in_set c.requires.step.taken) c.requires.step.basis c.args.joined.now.vectors.items c.args.i c.args.k c.in_ok-row.row
     (pair_combined (matrix_of c.args.step.now.matrix.now) c.args.step.now.column c.args.step.now.rows.now c.args.step.now.sums.now c.args.i c.args.k c.index-rows-i-2.result c.index-rows-k-2.result c.in_ok-row.row c.requires.step c.requires.first c.requires.second (omega arith) (omega arith)
     (read_row c.args.step.now.rows.now c.args.i c.index-rows-i-2.result c.requires.first c.index-rows-i-2.is)
     (read_row c.args.step.now.rows.now c.args.k c.index-rows-k-2.result c.requires.second c.index-rows-k-2.is)
     (c.are_adjacent.ensures.0 c.if-not-are_adjacent.false) c.in_ok-row.ensures.ok)
     c.requires.joined)
+
+pub returns-clause-carried : goal.returns-clause-carried
+returns-clause-carried c =
+    let m = matrix_of c.args.step.now.matrix.now in
+    let K = in_set c.args.step.now.after.now in
+    let vectors : c.push.new.self.vectors.items ≡ c.args.joined.now.vectors.items ++ c.in_ok-row.row ∷ [] = search rules in
+    let sums : c.push.new.self.sums.items ≡ c.args.joined.now.sums.items ++ c.in-Ok.sums ∷ [] = search rules in
+    subst (CarryTheirs m K c.push.new.self.vectors.items) (sym sums)
+    (subst (λ (l : List (List ℕ)). CarryTheirs m K l (c.args.joined.now.sums.items ++ c.in-Ok.sums ∷ [])) (sym vectors)
+    (carry_more m K c.args.joined.now.vectors.items c.args.joined.now.sums.items c.in_ok-row.row c.in-Ok.sums c.requires.carried c.in-Ok.ensures))

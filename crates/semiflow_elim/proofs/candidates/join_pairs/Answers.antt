@@ -6,7 +6,7 @@ use Rattle.semiflow_elim.proofs.candidates.join_pairs.Goals as goal
 
 pub returns-then-step-i-clause-joined : goal.returns-then-step-i-clause-joined
 returns-then-step-i-clause-joined c =
-    joined_next (matrix_of c.args.step.now.matrix.now) c.args.step.now.column c.args.step.now.rows.now c.args.joined.now.items c.args.i 0
+    joined_next (matrix_of c.args.step.now.matrix.now) c.args.step.now.column c.args.step.now.rows.now c.args.joined.now.vectors.items c.args.i 0
     (λ b above under pair.
     let up = pair.positive in
     let gain = c.requires.step.gains c.args.i c.requires.first in
@@ -21,5 +21,5 @@ returns-in_err-join_pair-clause-wide c =
 
 pub returns-clause-joined : goal.returns-clause-joined
 returns-clause-joined c =
-    joined_next (matrix_of c.args.step.now.matrix.now) c.args.step.now.column c.args.step.now.rows.now c.loop-k.joined.items c.args.i c.loop-k.k
+    joined_next (matrix_of c.args.step.now.matrix.now) c.args.step.now.column c.args.step.now.rows.now c.loop-k.joined.vectors.items c.args.i c.loop-k.k
     (λ b above under pair. let done = c.loop-k-test.false in omega arith) c.loop-k.invariant.joined

@@ -1,6 +1,5 @@
-use Rattle.incidence.specs.Tables.{matrix_of}
-use Rattle.semiflow_elim.specs.Candidates.{AreSums}
+use Rattle.semiflow_elim.specs.Candidates.{AreRead}
 use Rattle.semiflow_elim.proofs.signs.row_sums.Given as goal
 
-abbrev pub invariant-loop-row : goal.invariant-loop-row
-invariant-loop-row l = AreSums (matrix_of l.matrix) l.column l.rows l.sums.items l.row-index
+abbrev pub invariant-loop-i : goal.invariant-loop-i
+invariant-loop-i l = AreRead l.column l.rows.vectors.items l.rows.sums.items l.sums.items l.i
