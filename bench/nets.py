@@ -226,14 +226,18 @@ def marked_graph(n, seed=1):
 
 
 def free_choice(n, seed=1):
-    """n places, of which each transition takes from one; where a place has several transitions they choose."""
+    """n places, of which each transition takes from one; where a place has several transitions they choose. The
+    first transition of each hands its token on in one of several rings."""
     chance = random.Random(seed)
     net = Net()
+    ring = list(range(n))
+    chance.shuffle(ring)
+    following = {p: ring[i + 1] if (i + 1) % 6 and i + 1 < n else ring[i // 6 * 6] for i, p in enumerate(ring)}
     for i in range(n):
         net.place("p%d" % i, 1 if i % 7 == 0 else 0)
     for i in range(n):
         for k in range(chance.choice((1, 1, 2))):
-            outputs = {(i + 1) % n} if k == 0 else set(chance.sample(range(n), 2))
+            outputs = {following[i]} if k == 0 else set(chance.sample(range(n), 2))
             net.transition("t%d_%d" % (i, k), ["p%d" % i], ["p%d" % p for p in sorted(outputs)])
     return net
 
