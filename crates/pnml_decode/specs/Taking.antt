@@ -1,6 +1,7 @@
 -- What the reader says of a token: it takes the token where no test holds, and names the reason of the first
 -- that does. Out of memory is said only where none holds.
-use Rattle.std.specs.Prelude.{◌≡◌, Bool, not, ◌&&◌, List, ◌∷◌, Option, Some, None, Result, Ok, Err}
+use Rattle.std.specs.Prelude.{◌≡◌, Bool, false, not, ◌&&◌, List, ◌∷◌, Option, Some, None, Result, Ok, Err}
+use Rattle.pnml_grammar.specs.declared.element.Context.TheVariants as contexts
 use Rattle.pnml_grammar.specs.declared.element.ElementKind.{ElementKind}
 use Rattle.pnml_grammar.specs.declared.reason.Reason.{Reason}
 use Rattle.pnml_grammar.specs.declared.reason.Reason.TheVariants.{BadNumber, Misplaced, TooDeep}
@@ -45,3 +46,7 @@ place_rows state empty element =
     ∷ (empty && is_pnml element, Misplaced)
     ∷ (is_full state, TooDeep)
     ∷ count_rows state.counts element
+
+-- the innermost open element is skipped, and one more may be open: an empty tag is taken and changes nothing
+abbrev pub Skips : State → Type 0
+Skips state = (state.top.context ≡ contexts.Skipped) × (is_full state ≡ false)

@@ -1,8 +1,8 @@
-ghost use Rattle.std.specs.Prelude.{◌≡◌, [], ◌∷◌, Some, None, OnOk, IfOk, IfErr};
+ghost use Rattle.std.specs.Prelude.{◌≡◌, [], ◌∷◌, Some, None, OnOk, IfOk, IfErr, IsTrue};
 ghost use Rattle.pnml_grammar.specs.Counts.{◌plus◌, tag_counts};
 ghost use Rattle.pnml_grammar.specs.Elements.{element_named, context_in};
 ghost use Rattle.pnml_grammar.specs.Reasons.{count_rows, first_row, open_rows, tag_rows, end_rows, is_other_end, is_full};
-ghost use Rattle.pnml_decode.specs.Taking.{Checks, place_rows};
+ghost use Rattle.pnml_decode.specs.Taking.{Checks, Skips, place_rows};
 ghost use Rattle.pnml_decode.specs.Views.{view, counted};
 
 use crate::attributes::{has_attributes, has_namespace, has_type};
@@ -93,6 +93,16 @@ impl Reader {
             Err(Reason::TooDeep)
         } else {
             Ok(())
+        }
+    }
+
+    /// Whether an empty tag is taken and changes nothing.
+    pub(crate) fn skips(&self) -> bool
+        ensures { IsTrue result → Skips (view self.now) }
+    {
+        match self.top.context {
+            Context::Skipped => !self.is_full(),
+            _ => false,
         }
     }
 

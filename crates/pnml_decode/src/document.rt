@@ -13,7 +13,7 @@ use crate::reader::Reader;
 use crate::reader_fault::ReaderFault;
 use net_values::Document;
 use pnml_grammar::{Reason, Token};
-use pnml_token::{Step, TokenFault, token_at};
+use pnml_token::{Step, TokenFault, past_empty_tag, token_at};
 use simdutf8::compat::from_utf8;
 use std::alloc::Global;
 
@@ -48,11 +48,29 @@ fn read_tokens(alloc: Global, bytes: &[u8]) -> Result<Reader, DocFault>
     let mut offset = after_declaration(alloc, bytes)?;
     'tokens: while let Step::Token(token, end) = step_at(alloc, bytes, offset)? {
         match reader.take(token) {
-            Ok(()) => offset = end,
+            Ok(()) => offset = past_skipped(&reader, bytes, end),
             Err(fault) => return Err(refusal_at(offset, fault)),
         }
     }
     Ok(reader)
+}
+
+/// The offset after the empty tags that occur from this offset on in a skipped part, as far as they are told without
+/// memory. The reader isn't asked, since they change nothing.
+fn past_skipped(reader: &Reader, bytes: &[u8], start: usize) -> usize
+    requires read { IsReadTo bytes.now start (view reader.now) }
+    requires inside { start ≤ length bytes.now }
+    ensures read { IsReadTo bytes.now result (view reader.now) }
+    ensures ahead { start ≤ result }
+    ensures inside { result ≤ length bytes.now }
+{
+    let mut offset = start;
+    if reader.skips() {
+        'tags: while let Some(end) = past_empty_tag(bytes, offset) {
+            offset = end;
+        }
+    }
+    offset
 }
 
 /// The offset of the first token that is no declaration in front.

@@ -50,7 +50,7 @@ plain_is_ascii b e = grind (arith, nat_tests)
 plain_is_legal : (b : ℕ) → is_plain_byte b ≡ true → is_legal_character b ≡ true
 plain_is_legal b e = grind (arith, nat_tests)
 
-plain_are_ascii : (bytes : List ℕ) → list_all is_plain_byte bytes ≡ true → IsAscii bytes
+pub plain_are_ascii : (bytes : List ℕ) → list_all is_plain_byte bytes ≡ true → IsAscii bytes
 plain_are_ascii [] e = IsAscii-nil
 plain_are_ascii (b ∷ bytes) e =
     let p = and_parts (is_plain_byte b) (list_all is_plain_byte bytes) e in

@@ -10,3 +10,4 @@ pub mod PieceLaws
 pub mod LegalTexts
 pub mod Windows
 pub mod Endings
+pub mod EmptyTags

@@ -78,7 +78,7 @@ pub with_appended : (front value : List ℕ) (o : Option (List ℕ)) → with_fr
 with_appended front value None = refl
 with_appended front value (Some x) = ap (λ (t : List ℕ). Some t) (sym (append_assoc front value x))
 
-resolved_run : (spaces : Bool) (run xs : List ℕ) → Each (in_class (Plain spaces)) run → resolved (run ++ xs) ≡ with_front run (resolved xs)
+pub resolved_run : (spaces : Bool) (run xs : List ℕ) → Each (in_class (Plain spaces)) run → resolved (run ++ xs) ≡ with_front run (resolved xs)
 resolved_run spaces [] xs each = sym (with_none (resolved xs))
 resolved_run spaces (b ∷ bs) xs each =
     rw (plain_is spaces b each.0).1 (ap (with_front (b ∷ [])) (resolved_run spaces bs xs each.1) ∙ with_both b bs (resolved xs))

@@ -6,3 +6,4 @@ pub mod ByteClasses
 pub mod Gives
 pub mod Views
 pub mod Pieces
+pub mod EmptyTags

@@ -1,7 +1,9 @@
 -- What a step or a fault says.
 use Rattle.std.specs.Prelude.{◌≡◌, ℕ, List, length, Result, Ok, Err}
+use Rattle.pnml_grammar.specs.declared.token.Attribute.{Attribute}
 use Rattle.pnml_grammar.specs.declared.token.Token.{Token}
-use Rattle.pnml_grammar.specs.Tokens.{Occurs}
+use Rattle.pnml_grammar.specs.declared.token.Token.TheVariants.{Empty}
+use Rattle.pnml_grammar.specs.Tokens.{Occurs, TokenAt}
 use Rattle.pnml_token.specs.declared.miss.Miss.{Miss}
 use Rattle.pnml_token.specs.declared.miss.Miss.TheVariants as misses
 use Rattle.pnml_token.specs.declared.miss.Miss.TheVariants.{NoToken}
@@ -24,6 +26,10 @@ IfEnd steps.End P = P
 abbrev pub IfBadToken : TokenFault → (ℕ → Type 0) → Type 0
 IfBadToken (BadToken at) P = P at
 IfBadToken NoMemory P = Unit
+
+-- an empty tag occurs at the offset and has this end
+abbrev pub EndsEmptyTag : List ℕ → ℕ → ℕ → Type 0
+EndsEmptyTag bytes offset e = (name : List ℕ) × (attributes : List Attribute) × TokenAt bytes offset (Empty name attributes) e
 
 -- the answer is the end
 abbrev pub IsEndIfAny : Result Step TokenFault → Type 0

@@ -41,7 +41,7 @@ pub(crate) fn raw_attributes_of(
 /// `S Name S? '=' S? ('"' [^<"]* '"' | "'" [^<']* "'")`: white space and an attribute (productions 41,
 /// Attribute, 25, Eq, and 10, AttValue). Its references are resolved later.
 #[tactic(auto, unfolding(pnml_grammar::specs::Reading::raw_attribute_at))]
-fn raw_attribute_of(bytes: &[u8]) -> Option<(RawAttribute<'_>, &[u8])>
+pub(crate) fn raw_attribute_of(bytes: &[u8]) -> Option<(RawAttribute<'_>, &[u8])>
     ensures { option_map (λ x. (view x.0, x.1.now)) result ≡ raw_attribute_at bytes.now }
 {
     let (name, rest) = name_after_space(bytes)?;

@@ -25,7 +25,7 @@ fn is_legal(bytes: &[u8]) -> bool
 
 /// Whether all bytes are legal characters of ASCII. Parts of a fixed length are looked at without a way out in
 /// them, so that they are compared many bytes at once; in most of them no byte is below the space.
-fn are_plain(bytes: &[u8]) -> bool
+pub(crate) fn are_plain(bytes: &[u8]) -> bool
     ensures { result ≡ list_all is_plain_byte bytes.now }
 {
     let mut rest = bytes;

@@ -6,6 +6,7 @@
 #![tactic(auto)]
 
 mod attributes;
+mod empty_tags;
 mod legality;
 mod markup;
 mod miss;
@@ -15,6 +16,7 @@ mod runs;
 mod token;
 mod values;
 
+pub use empty_tags::past_empty_tag;
 pub use runs::{is_space, past_space};
 pub use token::{Step, TokenFault, token_at};
 

@@ -66,7 +66,7 @@ pub(crate) fn long_run_length(class: ByteClass, bytes: &[u8]) -> usize
 }
 
 /// Whether the class has all bytes of a part.
-fn are_all(class: ByteClass, part: &[u8]) -> bool
+pub(crate) fn are_all(class: ByteClass, part: &[u8]) -> bool
     ensures { result ≡ list_all (in_class class) part.now }
 {
     let mut all = true;

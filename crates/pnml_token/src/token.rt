@@ -73,7 +73,7 @@ fn token_within(alloc: Global, bytes: &[u8]) -> Result<(Token, usize), Miss>
 }
 
 /// As many bytes as a spelling has at most, and one more, by which characters are seen to end.
-fn window_length(length: usize) -> usize
+pub(crate) fn window_length(length: usize) -> usize
     ensures { result ≡ min length (MAX_TOKEN_BYTES + 1) }
 {
     if length <= MAX_TOKEN_BYTES {

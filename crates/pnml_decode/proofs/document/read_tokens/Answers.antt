@@ -11,17 +11,26 @@ returns-in_err-token-clause-fault c =
     let p = err_from_is_err_and c.from_residual-in_err-token.result c.from_residual-in_err-token.ensures.1 in
     rw (p.1, p.2) (missing_is_first _ c.args.bytes.now c.tokens.offset (view c.tokens.reader) c.requires c.tokens.invariant.0 c.in_err-token.ensures.fault)
 
-pub tokens-preserved : goal.tokens-preserved
-tokens-preserved c =
+pub past_skipped-offset-requires-clause-read : goal.past_skipped-offset-requires-clause-read
+past_skipped-offset-requires-clause-read c =
     let at = token_at_step c.args.bytes.now c.tokens.offset _ _ _ c.in-Token.is c.in_ok-token.ensures.token in
-    token_goes_on_read c.args.bytes.now c.tokens.offset (view c.tokens.reader) (view c.take.new.self) c.in-Token.token c.in-Token.end c.tokens.invariant.0 at c.in-Ok.ensures
+    (token_goes_on_read c.args.bytes.now c.tokens.offset (view c.tokens.reader) (view c.take.new.self) c.in-Token.token c.in-Token.end c.tokens.invariant.0 at c.in-Ok.ensures).0
+
+pub past_skipped-offset-requires-clause-inside : goal.past_skipped-offset-requires-clause-inside
+past_skipped-offset-requires-clause-inside c =
+    let at = token_at_step c.args.bytes.now c.tokens.offset _ _ _ c.in-Token.is c.in_ok-token.ensures.token in
+    token_end_inside c.args.bytes.now c.tokens.offset c.in-Token.token c.in-Token.end at
+
+pub tokens-preserved : goal.tokens-preserved
+tokens-preserved c = (c.past_skipped-offset.ensures.read, c.past_skipped-offset.ensures.inside)
 
 pub tokens-smaller : goal.tokens-smaller
 tokens-smaller c =
     let at = token_at_step c.args.bytes.now c.tokens.offset _ _ _ c.in-Token.is c.in_ok-token.ensures.token in
     let ahead = token_goes_on c.args.bytes.now c.tokens.offset c.in-Token.token c.in-Token.end at in
-    let inside = token_end_inside c.args.bytes.now c.tokens.offset c.in-Token.token c.in-Token.end at in
-    omega (arith, ahead, inside)
+    let past = c.past_skipped-offset.ensures.ahead in
+    let inside = c.past_skipped-offset.ensures.inside in
+    omega (arith, ahead, past, inside)
 
 pub returns-in-Err-clause-fault : goal.returns-in-Err-clause-fault
 returns-in-Err-clause-fault c =

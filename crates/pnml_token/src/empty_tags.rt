@@ -1,0 +1,89 @@
+//! Empty tags that are told to be there without memory: those of ASCII with at most two attributes, in whose values
+//! nothing is to be resolved. Most tags of graphics are so.
+
+ghost use Rattle.std.specs.Prelude.{◌≤◌, IfSome, IsTrue, length};
+ghost use Rattle.pnml_token.specs.EmptyTags.{HasReading, HasSimpleAttributes, IsEmptyTag, ReadsEmptyTag, StartsWithEmptyTag};
+ghost use Rattle.pnml_token.specs.Steps.{EndsEmptyTag};
+ghost use Rattle.pnml_token.specs.Views.{view};
+
+use crate::attributes::{RawAttribute, raw_attribute_of};
+use crate::legality::{are_plain, is_spelling};
+use crate::runs::{ByteClass, are_all, name_of, past, past_space};
+use crate::token::window_length;
+
+/// The end of the empty tag at the offset `offset` of the bytes, where one is there that is told without memory. It
+/// isn't said that none is there.
+pub fn past_empty_tag(bytes: &[u8], offset: usize) -> Option<usize>
+    requires { offset ≤ length bytes.now }
+    ensures { IfSome result (EndsEmptyTag bytes.now offset) }
+{
+    let length = empty_tag_length(&bytes[offset..])?;
+    Some(offset + length)
+}
+
+/// How many bytes spell the empty tag at the front.
+fn empty_tag_length(bytes: &[u8]) -> Option<usize>
+    ensures { IfSome result (StartsWithEmptyTag bytes.now) }
+{
+    let window = &bytes[..window_length(bytes.len())];
+    let rest = legal_empty_tag_of(window)?;
+    Some(window.len() - rest.len())
+}
+
+/// What follows the empty tag at the front.
+fn legal_empty_tag_of(bytes: &[u8]) -> Option<&[u8]>
+    ensures { IfSome result (λ rest. IsEmptyTag bytes.now rest.now) }
+{
+    let rest = empty_tag_of(bytes)?;
+    if is_spelling(&bytes[..bytes.len() - rest.len()]) {
+        Some(rest)
+    } else {
+        None
+    }
+}
+
+/// The same, whether it is short enough or not.
+fn empty_tag_of(bytes: &[u8]) -> Option<&[u8]>
+    ensures { IfSome result (λ rest. ReadsEmptyTag bytes.now rest.now) }
+{
+    let rest = past(b'<', bytes)?;
+    let (name, rest) = name_of(rest)?;
+    if !are_plain(name) {
+        return None;
+    }
+    let rest = past_simple_attributes(rest)?;
+    let rest = past(b'/', past_space(rest))?;
+    past(b'>', rest)
+}
+
+/// What follows the attributes, where there are at most two and both are simple.
+fn past_simple_attributes(bytes: &[u8]) -> Option<&[u8]>
+    ensures { IfSome result (λ rest. HasSimpleAttributes bytes.now rest.now) }
+{
+    let Some((first, after_first)) = raw_attribute_of(bytes) else {
+        return Some(bytes);
+    };
+    if !is_simple(&first) {
+        return None;
+    }
+    let Some((second, after_second)) = raw_attribute_of(after_first) else {
+        return Some(after_first);
+    };
+    if !is_simple(&second) || second.name == first.name {
+        return None;
+    }
+    match raw_attribute_of(after_second) {
+        None => Some(after_second),
+        Some(_) => None,
+    }
+}
+
+/// Whether an attribute is ASCII and its value represents itself.
+fn is_simple(raw_attribute: &RawAttribute<'_>) -> bool
+    ensures { IsTrue result → HasReading (view raw_attribute.now) }
+{
+    if !are_plain(raw_attribute.name) || !are_plain(raw_attribute.body) {
+        return false;
+    }
+    are_all(ByteClass::Plain(true), raw_attribute.body)
+}
