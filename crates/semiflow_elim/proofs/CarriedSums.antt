@@ -4,7 +4,7 @@ use Rattle.std.proofs.lemmas.Bool.{cases_eq, cases_lt, eq-eqb, ne_eqb, cond-true
 use Rattle.std.proofs.lemmas.List.{get_or_default, get_or-take, length-take-le}
 use Rattle.std.proofs.lemmas.List.Elements.{All-append}
 use Rattle.std.proofs.lemmas.List.Quantifiers.{all_pairs_push}
-use Rattle.incidence.specs.Matrix.{Matrix}
+use Rattle.incidence.specs.Matrix.{Matrix, gain_sum, loss_sum}
 use Rattle.semiflow_elim.specs.Carried.{sums_in, AreListed, AreSumsAt, AreCarried}
 use Rattle.semiflow_elim.specs.declared.carried.ColumnSums.{ColumnSums}
 
@@ -114,4 +114,17 @@ carried_start m K row = record {
     ascending = λ i j d before under. absurd (omega arith);
     within = λ k d under. absurd (omega arith);
   };
+}
+
+-- the sums of columns at which they are 0 needn't be listed
+pub carried_gap : (m : Matrix) (K : ℕ → Type 0) (row : List ℕ) (n next : ℕ) (sums : List ColumnSums) → n ≤ next → AreCarried m K row n sums → ((j : ℕ) → n ≤ j → j < next → (K j → ⊥) → (gain_sum m j (slice_index row) ≡ 0) × (loss_sum m j (slice_index row) ≡ 0)) → AreCarried m K row next sums
+carried_gap m K row n next sums up h none = record {
+  each = λ j under out. elim (cases_lt j n) [
+    | inl below ↦ h.each j below out
+    | inr past ↦
+        let zero_sums = none j past under out in
+        subst (AreSumsAt m j (slice_index row)) (sym (sums_free sums j (free_below n sums j h.listed past)))
+        (inl (record { gain = omega (arith, zero_sums.0); loss = omega (arith, zero_sums.1) }, sym zero_sums.0, sym zero_sums.1))
+  ];
+  listed = record { ascending = h.listed.ascending; within = λ k d under. let below = h.listed.within k d under in omega arith };
 }

@@ -25,3 +25,5 @@ pub mod CarriedSums
 pub mod Counting
 pub mod Carrying
 pub mod CountedSigns
+pub mod Merging
+pub mod Jointly

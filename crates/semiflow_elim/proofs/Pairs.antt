@@ -15,6 +15,8 @@ use Rattle.semiflow_elim.specs.Adjacent.{AreAdjacent, IsJoinedRow}
 use Rattle.semiflow_elim.specs.Bases.{IsGood}
 use Rattle.semiflow_elim.specs.Candidates.{IsCombined, IsNarrowCombination, IsWideCombination, IsStep, sums_of}
 use Rattle.semiflow_elim.specs.Elimination.{IsPair, IsWidePair, IsNarrowPair, row_of, surplus, deficit, combination}
+use Rattle.semiflow_elim.specs.Merged.{IsCombinedBy}
+use Rattle.semiflow_elim.specs.declared.merged.Multiples.{Multiples}
 use Rattle.semiflow_elim.specs.declared.signs.RowSums.{RowSums}
 use Rattle.semiflow_elim.proofs.CandidateLemmas.{Extends, pair_semiflow, divided_semiflow, divided_coprime, zero_factor, product_positive}
 
@@ -34,20 +36,25 @@ divisor_positive x y r s p d sums divisor some positive =
     pos_of_dvd_of_pos (divisor.divides some.0 some.1) (omega arith)
 
 -- the slices that the code reads are the lists that it was given
-pub combined_is : (r r' s s' p p' before after : List ℕ) (a b g d : ℕ) → IsGcd a b g → r' ≡ r → s' ≡ s → IsScaledSum (b / g) r' (a / g) s' (length r') p → p' ≡ p → IsGcdOfAll p' (length p') d → before ≡ p → length after ≡ length before → ((i : ℕ) → slice_index after i ≡ slice_index before i / d) → IsCombined r s a b after
-combined_is r r' s s' p p' before after a b g d gcd r_is s_is sums p_is divisor before_is size entries =
+pub combined_is : (r r' s s' p p' before after : List ℕ) (a b g d : ℕ) (by : Multiples) → by.first ≡ b / g → by.second ≡ a / g → by.divisor ≡ d → IsGcd a b g → r' ≡ r → s' ≡ s → IsScaledSum (b / g) r' (a / g) s' (length r') p → p' ≡ p → IsGcdOfAll p' (length p') d → before ≡ p → length after ≡ length before → ((i : ℕ) → slice_index after i ≡ slice_index before i / d) → IsCombinedBy r s a b after by
+combined_is r r' s s' p p' before after a b g d by first second quotient gcd r_is s_is sums p_is divisor before_is size entries =
     let sums_r : IsScaledSum (b / g) r (a / g) s' (length r) p = subst (λ (l : List ℕ). IsScaledSum (b / g) l (a / g) s' (length l) p) r_is sums in
     let sums_s : IsScaledSum (b / g) r (a / g) s (length r) p = subst (λ (l : List ℕ). IsScaledSum (b / g) r (a / g) l (length r) p) s_is sums_r in
     let whole : IsGcdOfAll p (length p) d = subst (λ (l : List ℕ). IsGcdOfAll l (length l) d) p_is divisor in
     record {
-      g = g;
-      gcd = gcd;
-      sums = p;
-      sums_are = sums_s;
-      divisor = d;
-      divisor_is = subst (λ (n : ℕ). IsGcdOfAll p n d) sums_s.size whole;
-      size = size ∙ ap length before_is ∙ sums_s.size;
-      entries = λ i. entries i ∙ ap (λ (l : List ℕ). slice_index l i / d) before_is;
+      combined = record {
+        g = g;
+        gcd = gcd;
+        sums = p;
+        sums_are = sums_s;
+        divisor = d;
+        divisor_is = subst (λ (n : ℕ). IsGcdOfAll p n d) sums_s.size whole;
+        size = size ∙ ap length before_is ∙ sums_s.size;
+        entries = λ i. entries i ∙ ap (λ (l : List ℕ). slice_index l i / d) before_is;
+      };
+      first = first;
+      second = second;
+      divisor = quotient;
     }
 
 pub combined_vector : (r s row : List ℕ) (a b : ℕ) → IsCombined r s a b row → IsVector r → IsVector row

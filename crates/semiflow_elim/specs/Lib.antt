@@ -12,3 +12,4 @@ pub mod Added
 pub mod Choices
 pub mod Carried
 pub mod Counts
+pub mod Merged

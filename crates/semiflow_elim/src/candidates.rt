@@ -4,13 +4,14 @@ ghost use Rattle.incidence.specs.Tables.{matrix_of};
 ghost use Rattle.semiflow_elim.specs.Adjacent.{AreJoined};
 ghost use Rattle.semiflow_elim.specs.Bases.{in_set};
 ghost use Rattle.semiflow_elim.specs.Carried.{CarryTheirs};
-ghost use Rattle.semiflow_elim.specs.Candidates.{IsCombined, IsNarrowCombination, IsWideCombination, IsStep, sums_of};
+ghost use Rattle.semiflow_elim.specs.Candidates.{IsNarrowCombination, IsWideCombination, IsStep, sums_of};
 ghost use Rattle.semiflow_elim.specs.Candidates.{pair_offers, row_offers, all_offers};
+ghost use Rattle.semiflow_elim.specs.Merged.{AreExact, IsCombinedBy};
 ghost use Rattle.semiflow_elim.specs.Elimination.{IsWidePair, row_of};
 
 use crate::adjacent::are_adjacent;
-use crate::carried::carried_sums;
 use crate::carried_rows::CarriedRows;
+use crate::merged::{Multiples, merged_sums};
 use crate::row_arithmetic::{RowFault, divide_all, gcd, gcd_of_all, scaled_entry, scaled_sum};
 use crate::signs::RowSums;
 use crate::step::Step;
@@ -22,6 +23,8 @@ pub(crate) fn join_all(alloc: Global, step: &Step<'_>) -> Result<CarriedRows, Ro
     requires step { let given = step.now in
         IsStep (matrix_of given.matrix.now) given.column given.rows.now given.sums.now }
     requires after { length step.now.after.now ≡ (matrix_of step.now.matrix.now).columns }
+    requires exact { let given = step.now in
+        AreExact (matrix_of given.matrix.now) (in_set given.after.now) given.rows.now given.carried.now }
     ensures joined { let given = step.now in IfOk result (λ joined.
         AreJoined (matrix_of given.matrix.now) given.column given.rows.now joined.vectors.items (length given.rows.now) 0) }
     ensures carried { let given = step.now in IfOk result (λ joined.
@@ -49,6 +52,8 @@ fn join_pairs(
     requires step { let given = step.now in
         IsStep (matrix_of given.matrix.now) given.column given.rows.now given.sums.now }
     requires after { length step.now.after.now ≡ (matrix_of step.now.matrix.now).columns }
+    requires exact { let given = step.now in
+        AreExact (matrix_of given.matrix.now) (in_set given.after.now) given.rows.now given.carried.now }
     requires joined { let given = step.now in
         AreJoined (matrix_of given.matrix.now) given.column given.rows.now joined.old.vectors.items i 0 }
     requires carried { let given = step.now in
@@ -85,6 +90,8 @@ fn join_pair(
     requires step { let given = step.now in
         IsStep (matrix_of given.matrix.now) given.column given.rows.now given.sums.now }
     requires after { length step.now.after.now ≡ (matrix_of step.now.matrix.now).columns }
+    requires exact { let given = step.now in
+        AreExact (matrix_of given.matrix.now) (in_set given.after.now) given.rows.now given.carried.now }
     requires joined { let given = step.now in
         AreJoined (matrix_of given.matrix.now) given.column given.rows.now joined.old.vectors.items i k }
     requires carried { let given = step.now in
@@ -109,17 +116,25 @@ fn join_pair(
         refuse_wide(alloc, &rows[i], &rows[k], first, second)?;
         return Ok(());
     }
-    let row = combined(
+    let combined = combined(
         alloc,
         &rows[i],
         &rows[k],
         first.gain - first.loss,
         second.loss - second.gain,
     )?;
-    let Ok(sums) = carried_sums(alloc, step.matrix, step.after, &row) else {
+    let Ok(sums) = merged_sums(
+        alloc,
+        step.matrix,
+        step.after,
+        &combined.row,
+        combined.by,
+        step.carried[i].as_slice(),
+        step.carried[k].as_slice(),
+    ) else {
         return Err(RowFault::NoMemory);
     };
-    if joined.push(row, sums).is_err() {
+    if joined.push(combined.row, sums).is_err() {
         return Err(RowFault::NoMemory);
     }
     Ok(())
@@ -153,23 +168,44 @@ fn refuse_wide(
     Ok(())
 }
 
+/// The combination of two rows, and how it is made.
+#[derive(Drop)]
+struct Combination {
+    row: Vector,
+    by: Multiples,
+}
+
 /// The combination of two rows by their differences `a` and `b`, divided by the greatest common
 /// divisor of its entries.
-fn combined(alloc: Global, r: &Vector, s: &Vector, a: u128, b: u128) -> Result<Vector, RowFault>
+fn combined(
+    alloc: Global,
+    r: &Vector,
+    s: &Vector,
+    a: u128,
+    b: u128,
+) -> Result<Combination, RowFault>
     requires alike { length r.now ≡ length s.now }
     requires first { 0 < a }
     requires second { 0 < b }
     requires nonzero { (i : ℕ) × (i < length r.now) × (0 < slice_index r.now i) }
-    ensures ok { IfOk result (λ row. IsCombined r.now s.now a b row) }
+    ensures ok { IfOk result (λ combined. IsCombinedBy r.now s.now a b combined.row combined.by) }
+    ensures divisor { IfOk result (λ combined. 0 < combined.by.divisor) }
     ensures wide { IfErr result (λ fault. fault ≡ RowFault.Wide →
         IsWideCombination r.now s.now a b) }
 {
     let g = gcd(a, b);
-    let mut entries = scaled_sum(alloc, b / g, r.as_slice(), a / g, s.as_slice())?;
+    let first = b / g;
+    let second = a / g;
+    let mut entries = scaled_sum(alloc, first, r.as_slice(), second, s.as_slice())?;
     let divisor = gcd_of_all(entries.as_slice());
     divide_all(entries.as_mut_slice(), divisor);
     let Ok(row) = Vector::from_entries(alloc, entries) else {
         return Err(RowFault::NoMemory);
     };
-    Ok(row)
+    let by = Multiples {
+        first,
+        second,
+        divisor,
+    };
+    Ok(Combination { row, by })
 }

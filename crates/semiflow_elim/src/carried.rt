@@ -43,7 +43,7 @@ pub(crate) fn carried_sums(
 }
 
 /// The two sums of a row at a column.
-fn sums_at(matrix: &Incidence, column: usize, row: &Vector) -> ColumnSums
+pub(crate) fn sums_at(matrix: &Incidence, column: usize, row: &Vector) -> ColumnSums
     requires column { column < (matrix_of matrix.now).columns }
     requires size { length row.now ≡ (matrix_of matrix.now).rows }
     ensures sums { AreSumsAt (matrix_of matrix.now) column (slice_index row.now) result }

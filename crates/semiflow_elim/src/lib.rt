@@ -13,6 +13,7 @@ mod elimination;
 mod fault;
 mod kept;
 mod laws;
+mod merged;
 mod row_arithmetic;
 mod signs;
 mod step;

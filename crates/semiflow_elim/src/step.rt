@@ -1,14 +1,16 @@
+use crate::carried::ColumnSums;
 use crate::signs::RowSums;
 use incidence::Incidence;
-use net_values::{PlaceSet, Vector};
+use net_values::{List, PlaceSet, Vector};
 
 /// A step of an elimination: its column, the set of columns that are taken after it, the rows over those that were
-/// taken before, and their two sums at the column.
+/// taken before with the sums that they carry, and their two sums at the column.
 #[derive(Clone, Copy)]
 pub(crate) struct Step<'a> {
     pub matrix: &'a Incidence,
     pub column: usize,
     pub after: &'a PlaceSet,
     pub rows: &'a [Vector],
+    pub carried: &'a [List<ColumnSums>],
     pub sums: &'a [RowSums],
 }

@@ -202,6 +202,7 @@ fn added_rows(
         column,
         after: &after,
         rows: rows.vectors.as_slice(),
+        carried: rows.sums.as_slice(),
         sums: sums.as_slice(),
     };
     match join_all(alloc, &step) {

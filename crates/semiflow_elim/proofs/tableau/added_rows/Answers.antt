@@ -1,4 +1,4 @@
-use Rattle.std.proofs.Common.{◌≡◌, sym, subst, ℕ, ◌≤◌, Bool, List, length, inl, inr, arith}
+use Rattle.std.proofs.Common.{◌≡◌, sym, ap, ◌∙◌, subst, ℕ, ◌<◌, ◌≤◌, Bool, true, List, length, set, inl, inr, arith}
 use Rattle.std.proofs.lemmas.Result.{err_from_is_err_and}
 use Rattle.incidence.specs.Matrix.{Matrix}
 use Rattle.incidence.specs.Tables.{matrix_of}
@@ -7,8 +7,11 @@ use Rattle.semiflow_elim.specs.Bases.{IsBasis, in_set}
 use Rattle.semiflow_elim.specs.Candidates.{IsStep, AreSums, AreRead, all_offers}
 use Rattle.semiflow_elim.specs.Carried.{CarryTheirs}
 use Rattle.semiflow_elim.specs.Elimination.{AreNarrowOutside, IsChosen}
+use Rattle.semiflow_elim.specs.Merged.{AreExact}
 use Rattle.semiflow_elim.specs.declared.carried.ColumnSums.{ColumnSums}
 use Rattle.semiflow_elim.specs.declared.signs.RowSums.{RowSums}
+use Rattle.semiflow_elim.proofs.Jointly.{carried_exact}
+use Rattle.semiflow_elim.proofs.TakenSets.{set_extends}
 use Rattle.semiflow_elim.proofs.Steps.{total_is, sums_step, read_sums}
 use Rattle.semiflow_elim.proofs.tableau.added_rows.Goals as goal
 
@@ -19,6 +22,9 @@ step_of : (m : Matrix) (taken : List Bool) (c : ℕ) (rows slice : List (List �
 step_of m taken c rows slice carried sums read slice_is read_is basis theirs narrow chosen are =
     subst (IsStep m c slice) (sym read_is) (subst (λ (l : List (List ℕ)). IsStep m c l sums) (sym slice_is)
     (sums_step m c rows sums (own_sums m (in_set taken) c rows carried sums theirs narrow chosen are) chosen.within taken basis))
+
+exact_read : (m : Matrix) (K : ℕ → Type 0) (rows slice : List (List ℕ)) (carried read : List (List ColumnSums)) → slice ≡ rows → read ≡ carried → AreExact m K rows carried → AreExact m K slice read
+exact_read m K rows slice carried read slice_is read_is h = subst (AreExact m K slice) (sym read_is) (subst (λ (l : List (List ℕ)). AreExact m K l carried) (sym slice_is) h)
 
 all_read : (rows slice : List (List ℕ)) (sums read : List RowSums) (joined : List (List ℕ)) → slice ≡ rows → read ≡ sums → length joined ≤ all_offers read (length slice) → length joined ≤ all_offers sums (length rows)
 all_read rows slice sums read joined slice_is read_is few =
@@ -35,7 +41,18 @@ returns-then-choice-from-clause-fails c =
 
 pub join_all-requires-clause-step : goal.join_all-requires-clause-step
 join_all-requires-clause-step c =
-    step_of (matrix_of c.args.matrix.now) c.args.taken.now c.in_ok-choice.choice.column c.args.rows.now.vectors.items c.as_slice.result.now c.args.rows.now.sums.items c.in-Ok.sums.items c.as_slice-2.result.now c.as_slice.ensures.value c.as_slice-2.ensures.value c.requires.basis c.requires.carried c.in_ok-choice.ensures.narrow c.in_ok-choice.ensures.chosen c.in-Ok.ensures
+    step_of (matrix_of c.args.matrix.now) c.args.taken.now c.in_ok-choice.choice.column c.args.rows.now.vectors.items c.as_slice.result.now c.args.rows.now.sums.items c.in-Ok.sums.items c.as_slice-3.result.now c.as_slice.ensures.value c.as_slice-3.ensures.value c.requires.basis c.requires.carried c.in_ok-choice.ensures.narrow c.in_ok-choice.ensures.chosen c.in-Ok.ensures
+
+pub join_all-requires-clause-exact : goal.join_all-requires-clause-exact
+join_all-requires-clause-exact c =
+    let m = matrix_of c.args.matrix.now in
+    let taken = c.args.taken.now in
+    let column = c.in_ok-choice.choice.column in
+    let under : column < length taken = let within = c.in_ok-choice.ensures.chosen.within in let size = c.requires.columns in omega arith in
+    let after : c.insert.new.self ≡ set taken column true = c.insert.ensures ∙ ap (λ (t : List Bool). set t column true) c.in-Ok-copy.ensures in
+    exact_read m (in_set c.insert.new.self) c.args.rows.now.vectors.items c.as_slice.result.now c.args.rows.now.sums.items c.as_slice-2.result.now c.as_slice.ensures.value c.as_slice-2.ensures.value
+    (subst (λ (t : List Bool). AreExact m (in_set t) c.args.rows.now.vectors.items c.args.rows.now.sums.items) (sym after)
+    (carried_exact m (in_set taken) (in_set (set taken column true)) c.args.rows.now.vectors.items c.args.rows.now.sums.items (set_extends taken column under).old c.requires.carried c.in_ok-choice.ensures.narrow))
 
 pub returns-in-Ok-join_all-clause-added : goal.returns-in-Ok-join_all-clause-added
 returns-in-Ok-join_all-clause-added c =
@@ -47,7 +64,7 @@ returns-in-Ok-join_all-clause-added c =
     record {
       sums_are = own_sums m (in_set c.args.taken.now) column rows c.args.rows.now.sums.items c.in-Ok.sums.items c.requires.carried c.in_ok-choice.ensures.narrow c.in_ok-choice.ensures.chosen c.in-Ok.ensures;
       joined_are = subst (λ (l : List (List ℕ)). AreJoined m column l joined (length l) 0) slice c.in-Ok-join_all.ensures.joined;
-      count = all_read rows c.as_slice.result.now c.in-Ok.sums.items c.as_slice-2.result.now joined slice c.as_slice-2.ensures.value c.in-Ok-join_all.ensures.count;
+      count = all_read rows c.as_slice.result.now c.in-Ok.sums.items c.as_slice-3.result.now joined slice c.as_slice-3.ensures.value c.in-Ok-join_all.ensures.count;
     }
 
 pub returns-in-Ok-join_all-clause-budget : goal.returns-in-Ok-join_all-clause-budget
