@@ -16,7 +16,8 @@ use Rattle.siphon_branch.specs.Classes.{IsLiveClass}
 use Rattle.siphon_branch.specs.Met.{Meets, Overruns, IsGrownFrom}
 use Rattle.siphon_branch.proofs.Growths.{same_growth, growth_next}
 use Rattle.siphon_branch.proofs.Lists.{adds_on, some_on, adds_same, some_within, adds_nothing}
-use Rattle.siphon_branch.proofs.Parts.{placed, leaf_meets, leaf_over}
+use Rattle.closed_sets.proofs.OpenSets.{placed}
+use Rattle.siphon_branch.proofs.Parts.{leaf_meets, leaf_over}
 use Rattle.certificates.specs.Conditions.{without, containing}
 use Rattle.cert_make.specs.declared.class.Class.{Class}
 use Rattle.cert_make.specs.Classes.{HasSize, IsWhole, class_of, IsGrownSetIn, IsNextPlace, IsLowestLeft, IsLowestInput, is_input_left}

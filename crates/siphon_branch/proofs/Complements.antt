@@ -32,11 +32,11 @@ nonempty_in : (net : Net) (S U : ℕ → Bool) → IsWithin net S U → IsNonemp
 nonempty_in net S U within some = let at = any_from net.places S some in any_at net.places U at.0 at.1 (within at.0 at.1 at.2)
 
 module _ (net : Net) (class : Branch) (found : List Bool) (size : HasSize net.places class) (greatest : IsGreatestSiphon net (has (complement class.avoids)) (has found)) where
-  greatest' : IsGreatestSiphon net (λ p. not (has class.avoids p)) (has found)
-  greatest' = greatest_same net (has (complement class.avoids)) (λ p. not (has class.avoids p)) (has found) (λ p below. complement_has class.avoids p (omega (arith, size.avoids))) greatest
+  pub greatest_avoiding : IsGreatestSiphon net (λ p. not (has class.avoids p)) (has found)
+  greatest_avoiding = greatest_same net (has (complement class.avoids)) (λ p. not (has class.avoids p)) (has found) (λ p below. complement_has class.avoids p (omega (arith, size.avoids))) greatest
 
   in_found : (live : IsLiveClass net (has class.contains) (has class.avoids)) → IsWithin net live.greatest (has found)
-  in_found live = greatest'.greatest live.greatest live.is_greatest.siphon live.is_greatest.within
+  in_found live = greatest_avoiding.greatest live.greatest live.is_greatest.siphon live.is_greatest.within
 
   pub live_empty : IsEmpty found → IsLiveClass net (has class.contains) (has class.avoids) → ⊥
   live_empty none live = nonempty_not net (has found) none (nonempty_in net live.greatest (has found) (in_found live) live.nonempty)
@@ -45,7 +45,7 @@ module _ (net : Net) (class : Branch) (found : List Bool) (size : HasSize net.pl
   live_exact inside size' some decides = (
     λ holds. record {
       greatest = has found;
-      is_greatest = greatest';
+      is_greatest = greatest_avoiding;
       nonempty = nonempty_from net found size' some;
       has_all = λ p below member. decides.0 holds p member;
     },

@@ -2,8 +2,15 @@ pub mod Growths
 pub mod Lists
 pub mod Complements
 pub mod Parts
+pub mod Halves
+pub mod Divisions
+pub mod HeldClasses
+pub mod NextPlaces
+pub mod Descending
+pub mod Underway
+pub mod Beginning
+pub mod Searching
 pub mod Roots
-pub mod Keeping
 pub mod MinimalGrown
 pub mod Sorting
 pub mod LiveClasses

@@ -2,5 +2,8 @@
 pub mod Limits
 pub mod Met
 pub mod Classes
+pub mod Searches
 pub mod Faults
 pub mod Laws
+-- Only clauses of private functions and lemmas cite this.
+pub mod Held

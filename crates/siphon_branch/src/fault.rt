@@ -19,20 +19,3 @@ impl From<NoMemory> for SetFault {
         SetFault::NoMemory
     }
 }
-
-/// Why a search stops before it has met all: out of memory, or one set more than the limit was met.
-#[derive(Clone, Copy)]
-pub(crate) enum SearchFault {
-    NoMemory,
-    SetLimit,
-}
-
-impl From<NoMemory> for SearchFault {
-    ghost use Rattle.siphon_branch.specs.declared.fault.SearchFault.{SearchFault};
-
-    ghost from_gives = { λ _ fault. fault ≡ SearchFault.NoMemory };
-
-    fn from(_error: NoMemory) -> SearchFault {
-        SearchFault::NoMemory
-    }
-}

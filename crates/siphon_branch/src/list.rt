@@ -1,19 +1,16 @@
-ghost use Rattle.std.specs.Prelude.{◌≡◌, All, IfOk, IfErr, OnOk, Contains, length};
+ghost use Rattle.std.specs.Prelude.{◌≡◌, IfOk, IfErr, OnOk};
 ghost use Rattle.std.specs.Cmp.Lexicographic.{slice_cmp};
 ghost use Rattle.std.specs.Ordering.{bool_cmp};
 ghost use Rattle.net_values.specs.FlatNets.{net_of};
-ghost use Rattle.net_values.specs.PlaceSets.{has};
 ghost use Rattle.net_values.specs.TheList.{IsTheList};
-ghost use Rattle.closed_sets.specs.ClosedSets.{IsMinimalSiphon};
 ghost use Rattle.closed_sets.specs.MinimalSets.{CoversSiphons, IsMinimalSet};
 ghost use Rattle.siphon_branch.specs.Faults.{FailsToList};
-ghost use Rattle.siphon_branch.specs.Limits.{AreDistinct, HasAtMostGrown};
-ghost use Rattle.siphon_branch.specs.Met.{IsListOf};
+ghost use Rattle.siphon_branch.specs.Limits.{HasAtMostGrown};
 
-use crate::fault::{SearchFault, SetFault};
-use crate::search::meet_all;
-use closed_sets::is_minimal_siphon;
-use net_values::{FlatNet, NoMemory, PlaceSet, Sets};
+use crate::fault::SetFault;
+use crate::progress::{AdvanceFault, Progress};
+use crate::search::Search;
+use net_values::{FlatNet, Sets};
 use std::alloc::Global;
 
 /// The list of all minimal siphons of the net, each compared as its list of 0 and 1, strictly ascending. It
@@ -25,31 +22,13 @@ pub fn minimal_siphons(alloc: Global, net: &FlatNet, sets: u32) -> Result<Sets, 
     ensures covers { IfOk result (λ list. CoversSiphons (net_of net.now) list) }
     ensures fault { IfErr result (FailsToList (net_of net.now) sets) }
 {
-    let mut met = Sets::new(alloc);
-    match meet_all(alloc, net, sets as usize, &mut met) {
-        Ok(()) => {
-            let mut found = keep_minimal(alloc, net, &met)?;
-            found.sort();
-            Ok(found)
-        }
-        Err(SearchFault::SetLimit) => Err(SetFault::SetLimit(met)),
-        Err(SearchFault::NoMemory) => Err(SetFault::NoMemory),
-    }
-}
-
-/// Copies of the minimal siphons among the sets.
-fn keep_minimal(alloc: Global, net: &FlatNet, met: &Sets) -> Result<Sets, NoMemory>
-    requires sizes { All (λ set. length set ≡ (net_of net.now).places) met.now }
-    requires distinct { AreDistinct met.now }
-    ensures { IfOk result (IsListOf (λ set. Contains met.now set × IsMinimalSiphon (net_of net.now) (has set))) }
-{
-    let mut found = Sets::new(alloc);
-    let mut scratch = PlaceSet::new(alloc, net.places())?;
-    let sets = met.as_slice();
-    for set in sets {
-        if is_minimal_siphon(net, set, &mut scratch) {
-            found.push(set.copy(alloc)?)?;
+    let mut search = Search::start(alloc, net, sets)?;
+    loop {
+        match search.advance(u32::MAX) {
+            Ok(Progress::Done) => return Ok(search.into_list()),
+            Ok(Progress::More) => {}
+            Err(AdvanceFault::SetLimit) => return Err(SetFault::SetLimit(search.into_met())),
+            Err(AdvanceFault::NoMemory) => return Err(SetFault::NoMemory),
         }
     }
-    Ok(found)
 }

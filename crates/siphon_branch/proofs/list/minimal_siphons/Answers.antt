@@ -1,23 +1,17 @@
-use Rattle.std.proofs.Common.{ap, Err}
-use Rattle.net_values.specs.FlatNets.{net_of}
-use Rattle.siphon_branch.specs.Limits.{IsGrownSet}
+use Rattle.std.proofs.Common.{subst}
+use Rattle.std.specs.Cmp.Lexicographic.{slice_cmp}
+use Rattle.std.specs.Ordering.{bool_cmp}
+use Rattle.net_values.specs.FlatNets.{NetLists, net_of}
+use Rattle.net_values.specs.TheList.{IsTheList}
+use Rattle.closed_sets.specs.MinimalSets.{IsMinimalSet}
 use Rattle.closed_sets.proofs.Covers.{covers}
-use Rattle.siphon_branch.proofs.Sorting.{the_list, from_nothing, passes_from_nothing}
+use Rattle.siphon_branch.proofs.Searching.{IsOverAll, done_none, over_all_on, over_all_started}
 use Rattle.siphon_branch.proofs.list.minimal_siphons.Goals as goal
 
-pub returns-in_ok-found-in-Ok-clause-list : goal.returns-in_ok-found-in-Ok-clause-list
-returns-in_ok-found-in-Ok-clause-list c =
-    the_list (net_of c.args.net.now) c.meet_all.new.met c.in_ok-found-in-Ok.found c.sort.new.self
-    (from_nothing (IsGrownSet (net_of c.args.net.now)) c.new-met.result c.meet_all.new.met c.new-met.ensures c.in-Ok.ensures.ok.adds)
-    c.in_ok-found-in-Ok.ensures c.sort.ensures.same c.sort.ensures.sorted
-
-pub returns-in_ok-found-in-Ok-clause-covers : goal.returns-in_ok-found-in-Ok-clause-covers
-returns-in_ok-found-in-Ok-clause-covers c =
-    covers (net_of c.args.net.now) c.sort.new.self
-    (the_list (net_of c.args.net.now) c.meet_all.new.met c.in_ok-found-in-Ok.found c.sort.new.self
-    (from_nothing (IsGrownSet (net_of c.args.net.now)) c.new-met.result c.meet_all.new.met c.new-met.ensures c.in-Ok.ensures.ok.adds)
-    c.in_ok-found-in-Ok.ensures c.sort.ensures.same c.sort.ensures.sorted)
-
-pub returns-in-Err-SetLimit-clause-fault : goal.returns-in-Err-SetLimit-clause-fault
-returns-in-Err-SetLimit-clause-fault c =
-    passes_from_nothing (net_of c.args.net.now) c.args.sets c.new-met.result c.meet_all.new.met c.new-met.ensures (c.in-Err-SetLimit.ensures.limit (ap Err c.in-Err-SetLimit.field-0-is))
+pub returns-in-Ok-Done-clause-covers : goal.returns-in-Ok-Done-clause-covers
+returns-in-Ok-Done-clause-covers c =
+    let search = c.advance.new.self in
+    let over : IsOverAll c.args.net.now c.args.sets search = over_all_on c.args.net.now c.args.sets _ c.loop-search.search search c.advance.ensures.on c.loop-search.invariant in
+    covers (net_of c.args.net.now) c.into_list.result
+    (subst (λ (lists : NetLists). IsTheList (slice_cmp bool_cmp) (IsMinimalSet (net_of lists)) c.into_list.result) over.lists
+    (c.into_list.ensures.list (over_all_started c.args.net.now c.args.sets search over) (done_none _ c.loop-search.search search c.in-Ok-Done.field-0 c.in-Ok-Done.field-0-is c.in-Ok-Done.ensures.answer)))

@@ -1,0 +1,87 @@
+ghost use Rattle.std.specs.Prelude.{◌≡◌, [], ◌⊎◌, ◌++◌, ◌∷◌, ◌≤◌, IfOk, OnErr, OnOk, All, length};
+ghost use Rattle.net_values.specs.FlatNets.{net_of};
+ghost use Rattle.net_values.specs.PlaceSets.{has};
+ghost use Rattle.siphon_branch.specs.Held.{AddsFound, Descends, Extends, IsHeld, IsSomehowUnderway, IsWhole, KeepsUnderway};
+
+use crate::live_class::LiveClass;
+use closed_sets::{Fallen, has_no_smaller_siphon};
+use net_values::{FlatNet, List, NoMemory, PlaceSet, Sets};
+use std::alloc::Global;
+
+/// Takes classes, the last one first, and meets a siphon in each, until so many siphons are met or no class is left.
+pub(crate) fn walk(
+    alloc: Global,
+    net: &FlatNet,
+    classes: &mut List<LiveClass>,
+    end: usize,
+    met: &mut Sets,
+    found: &mut Sets,
+) -> Result<(), NoMemory>
+    requires underway { IsSomehowUnderway (net_of net.now) classes.old met.old found.old }
+    requires end { length met.old ≤ end }
+    ensures met { Extends met.old met.new }
+    ensures found { Extends found.old found.new }
+    ensures kept { OnOk result (KeepsUnderway (net_of net.now) classes.old classes.new met.old met.new found.old found.new) }
+    ensures within { length met.new ≤ end }
+    ensures ended { OnOk result ((length met.new ≡ end) ⊎ (classes.new ≡ [])) }
+{
+    let mut left = PlaceSet::new(alloc, net.places())?;
+    let mut fallen = Fallen::none();
+    'siphons: while met.len() < end {
+        let Some(class) = classes.pop() else {
+            return Ok(());
+        };
+        let siphon = descend(alloc, net, class, classes, &mut left, &mut fallen)?;
+        add(alloc, net, siphon, met, found, &mut left, &mut fallen)?;
+    }
+    Ok(())
+}
+
+/// Goes down a class to the siphon whose growth always takes the next place: each step parts the class in two
+/// and keeps the part without that place, where it is live.
+fn descend(
+    alloc: Global,
+    net: &FlatNet,
+    mut class: LiveClass,
+    classes: &mut List<LiveClass>,
+    left: &mut PlaceSet,
+    fallen: &mut Fallen,
+) -> Result<PlaceSet, NoMemory>
+    requires held { IsHeld (net_of net.now) class }
+    requires left { length left.old ≡ (net_of net.now).places }
+    ensures left { length left.new ≡ length left.old }
+    ensures siphon { IfOk result (λ siphon. Descends (net_of net.now) class classes.old classes.new siphon) }
+{
+    'class: while let Some(p) = class.next_place(net) {
+        class.keep_without(alloc, net, p, classes, left, fallen)?;
+        class.take(net, p);
+    }
+    Ok(class.contains)
+}
+
+/// Appends a siphon to those that were met, and to the minimal ones where it is one.
+fn add(
+    alloc: Global,
+    net: &FlatNet,
+    siphon: PlaceSet,
+    met: &mut Sets,
+    found: &mut Sets,
+    scratch: &mut PlaceSet,
+    fallen: &mut Fallen,
+) -> Result<(), NoMemory>
+    requires size { length siphon ≡ (net_of net.now).places }
+    requires siphon { IsWhole (net_of net.now) (has siphon) }
+    requires met { All (λ set. length set ≡ (net_of net.now).places) met.old }
+    requires found { All (λ set. length set ≡ (net_of net.now).places) found.old }
+    requires scratch { length scratch.old ≡ (net_of net.now).places }
+    ensures scratch { length scratch.new ≡ length scratch.old }
+    ensures extends { Extends found.old found.new }
+    ensures met { OnOk result (met.new ≡ met.old ++ siphon ∷ []) }
+    ensures err { OnErr result (met.new ≡ met.old) }
+    ensures found { OnOk result (AddsFound (net_of net.now) siphon found.old found.new) }
+{
+    if has_no_smaller_siphon(net, &siphon, scratch, fallen) {
+        found.push(siphon.copy(alloc)?)?;
+    }
+    met.push(siphon)
+}
