@@ -99,15 +99,15 @@ abbrev pub rejected_line : ℕ → List ℕ
 rejected_line number = numbered_line (codes "certificate rejected") number
 
 -- it is one of a firing list: it names no transition, a place lacks tokens for the one that it names, or a place
--- would have too many
+-- would have too many; members count from 0, the lines from 1
 abbrev pub firing_malformed_line : ℕ → List ℕ
 firing_malformed_line number = numbered_line (codes "firing list malformed") number
 
 unfoldable pub firing_rejected_line : ℕ → List ℕ → List ℕ
-firing_rejected_line number id = joined (codes "firing list rejected at line " ∷ decimal number ∷ codes ": " ∷ id ∷ codes " lacks tokens\n" ∷ [])
+firing_rejected_line member id = joined (codes "firing list rejected at line " ∷ decimal (member + 1) ∷ codes ": " ∷ id ∷ codes " lacks tokens\n" ∷ [])
 
 unfoldable pub wide_marking_line : ℕ → List ℕ → List ℕ
-wide_marking_line number id = joined (codes "wide marking at line " ∷ decimal number ∷ codes " in " ∷ id ∷ codes "\n" ∷ [])
+wide_marking_line member id = joined (codes "wide marking at line " ∷ decimal (member + 1) ∷ codes " in " ∷ id ∷ codes "\n" ∷ [])
 
 -- the words mean nothing, the input is too long, a device failed
 abbrev pub usage_line : List ℕ

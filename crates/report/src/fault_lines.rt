@@ -26,7 +26,7 @@ pub fn tell<O: Sink>(sink: &mut O, refusal: &Refusal) -> Result<(), WriteFault>
         Refusal::Malformed(number) => tell_line(sink, b"certificate malformed", *number),
         Refusal::Rejected(number) => tell_line(sink, b"certificate rejected", *number),
         Refusal::MalformedFiring(number) => tell_line(sink, b"firing list malformed", *number),
-        Refusal::RejectedFiring(number, id) => tell_rejected_firing(sink, *number, id),
+        Refusal::RejectedFiring(member, id) => tell_rejected_firing(sink, *member, id),
         Refusal::TooLong => write_all(sink, b"input too long\n"),
         Refusal::ReadFault => write_all(sink, b"read fault\n"),
         Refusal::WriteFault => write_all(sink, b"write fault\n"),
@@ -69,7 +69,7 @@ fn tell_excess<O: Sink>(sink: &mut O, excess: &Excess) -> Result<(), WriteFault>
         Excess::WideRow(id) => tell_wide(sink, b"wide row", id),
         Excess::WideBound(row) => tell_wide_bound(sink, *row),
         Excess::WideCheck(row, id) => tell_wide_check(sink, *row, id),
-        Excess::WideMarking(number, id) => tell_wide_marking(sink, *number, id),
+        Excess::WideMarking(member, id) => tell_wide_marking(sink, *member, id),
         Excess::RowBudget(budget, id, count) => tell_budget(sink, *budget, id, *count),
         Excess::SetLimit(limit) => tell_limit(sink, *limit),
     }
@@ -153,10 +153,11 @@ fn tell_line<O: Sink>(sink: &mut O, words: &[u8], number: u64) -> Result<(), Wri
 
 /// The line of a firing list whose transition isn't enabled, and the place that lacks tokens.
 #[tactic(auto, unfolding(crate::specs::FaultLines::firing_rejected_line))]
-fn tell_rejected_firing<O: Sink>(sink: &mut O, number: u64, id: &Text) -> Result<(), WriteFault>
-    ensures { IsWritten (O.held sink.old) (O.held sink.new) (O.faults sink.old) (O.faults sink.new) (firing_rejected_line number id.now) result }
+fn tell_rejected_firing<O: Sink>(sink: &mut O, member: usize, id: &Text) -> Result<(), WriteFault>
+    ensures { IsWritten (O.held sink.old) (O.held sink.new) (O.faults sink.old) (O.faults sink.new) (firing_rejected_line member id.now) result }
 {
     let mut buffer = Buffer::new();
+    let number = member as u128 + 1;
     let digits = buffer.format(number).as_bytes();
     write_pieces(
         sink,
@@ -172,10 +173,11 @@ fn tell_rejected_firing<O: Sink>(sink: &mut O, number: u64, id: &Text) -> Result
 
 /// The line of a firing list whose transition would give a place too many tokens.
 #[tactic(auto, unfolding(crate::specs::FaultLines::wide_marking_line))]
-fn tell_wide_marking<O: Sink>(sink: &mut O, number: u64, id: &Text) -> Result<(), WriteFault>
-    ensures { IsWritten (O.held sink.old) (O.held sink.new) (O.faults sink.old) (O.faults sink.new) (wide_marking_line number id.now) result }
+fn tell_wide_marking<O: Sink>(sink: &mut O, member: usize, id: &Text) -> Result<(), WriteFault>
+    ensures { IsWritten (O.held sink.old) (O.held sink.new) (O.faults sink.old) (O.faults sink.new) (wide_marking_line member id.now) result }
 {
     let mut buffer = Buffer::new();
+    let number = member as u128 + 1;
     let digits = buffer.format(number).as_bytes();
     write_pieces(
         sink,

@@ -23,9 +23,9 @@ pub enum Refusal {
     Rejected(u64),
     /// The bytes behind the document are no firing list, by this line, counted from 1.
     MalformedFiring(u64),
-    /// The transition of this line of the firing list, counted from 1, isn't enabled: the place of this id
+    /// The transition of this member of the firing list, counted from 0, isn't enabled: the place of this id
     /// lacks tokens.
-    RejectedFiring(u64, Text),
+    RejectedFiring(usize, Text),
     /// The input has more bytes than may be read.
     TooLong,
     /// The source of the input failed.
@@ -48,9 +48,9 @@ pub enum Excess {
     WideBound(usize),
     /// A sum of this row of the list, counted from 0, at the column of this id exceeds 2^127 - 1.
     WideCheck(usize, Text),
-    /// The transition of this line of the firing list, counted from 1, would give the place of this id more
+    /// The transition of this member of the firing list, counted from 0, would give the place of this id more
     /// than 2^127 - 1 tokens.
-    WideMarking(u64, Text),
+    WideMarking(usize, Text),
     /// The budget, the id of the column that passes it, and its number of candidates.
     RowBudget(u32, Text, u64),
     /// More siphons or traps than this are grown.

@@ -228,8 +228,8 @@ enum Refused {
     Malformed(u64),
     Rejected(u64),
     MalformedFiring(u64),
-    RejectedFiring(u64),
-    WideMarking(u64),
+    RejectedFiring(usize),
+    WideMarking(usize),
     TooLong,
 }
 
@@ -270,11 +270,11 @@ const LINES: [(Refused, u8, &str); 14] = [
         "firing list malformed at line 2\n",
     ),
     (
-        Refused::RejectedFiring(3),
+        Refused::RejectedFiring(2),
         1,
         "firing list rejected at line 3: é< lacks tokens\n",
     ),
-    (Refused::WideMarking(4), 4, "wide marking at line 4 in é<\n"),
+    (Refused::WideMarking(3), 4, "wide marking at line 4 in é<\n"),
     (Refused::TooLong, 7, "input too long\n"),
 ];
 
@@ -292,8 +292,8 @@ fn refusal(alloc: Global, refused: Refused) -> Result<Refusal, NoMemory> {
         Refused::Malformed(number) => Refusal::Malformed(number),
         Refused::Rejected(number) => Refusal::Rejected(number),
         Refused::MalformedFiring(number) => Refusal::MalformedFiring(number),
-        Refused::RejectedFiring(number) => Refusal::RejectedFiring(number, id),
-        Refused::WideMarking(number) => Refusal::Excess(Excess::WideMarking(number, id)),
+        Refused::RejectedFiring(member) => Refusal::RejectedFiring(member, id),
+        Refused::WideMarking(member) => Refusal::Excess(Excess::WideMarking(member, id)),
         Refused::TooLong => Refusal::TooLong,
     })
 }
