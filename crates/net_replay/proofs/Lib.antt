@@ -6,3 +6,4 @@ pub mod OneReplay
 pub mod Numbering
 pub mod Reading
 pub mod FiredSoFar
+pub mod TokenLines

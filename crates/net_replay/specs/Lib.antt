@@ -3,6 +3,7 @@
 pub mod FiringLists
 pub mod Replays
 pub mod Failures
+pub mod Texts
 pub mod Laws
 -- Only clauses of private functions cite this.
 pub mod Numbers

@@ -87,15 +87,27 @@ budget_line budget id count =
 unfoldable pub limit_line : ℕ → List ℕ
 limit_line limit = joined (codes "set limit " ∷ decimal limit ∷ codes " passed\n" ∷ [])
 
--- a line of a certificate, counted from 1, is bad
-unfoldable pub certificate_line : List ℕ → ℕ → List ℕ
-certificate_line words number = joined (codes "certificate " ∷ words ∷ codes " at line " ∷ decimal number ∷ codes "\n" ∷ [])
+-- a line of what follows the document, counted from 1, is bad
+unfoldable pub numbered_line : List ℕ → ℕ → List ℕ
+numbered_line words number = joined (words ∷ codes " at line " ∷ decimal number ∷ codes "\n" ∷ [])
 
+-- it is one of a certificate
 abbrev pub malformed_line : ℕ → List ℕ
-malformed_line number = certificate_line (codes "malformed") number
+malformed_line number = numbered_line (codes "certificate malformed") number
 
 abbrev pub rejected_line : ℕ → List ℕ
-rejected_line number = certificate_line (codes "rejected") number
+rejected_line number = numbered_line (codes "certificate rejected") number
+
+-- it is one of a firing list: it names no transition, a place lacks tokens for the one that it names, or a place
+-- would have too many; members count from 0, the lines from 1
+abbrev pub firing_malformed_line : ℕ → List ℕ
+firing_malformed_line number = numbered_line (codes "firing list malformed") number
+
+unfoldable pub firing_rejected_line : ℕ → List ℕ → List ℕ
+firing_rejected_line member id = joined (codes "firing list rejected at line " ∷ decimal (member + 1) ∷ codes ": " ∷ id ∷ codes " lacks tokens\n" ∷ [])
+
+unfoldable pub wide_marking_line : ℕ → List ℕ → List ℕ
+wide_marking_line member id = joined (codes "wide marking at line " ∷ decimal (member + 1) ∷ codes " in " ∷ id ∷ codes "\n" ∷ [])
 
 -- the words mean nothing, the input is too long, a device failed
 abbrev pub usage_line : List ℕ

@@ -6,10 +6,10 @@ use Rattle.pnml_decode.specs.declared.fault.DocFault.{DocFault}
 use Rattle.pnml_decode.specs.declared.fault.DocFault.TheVariants as documents
 use Rattle.pnml_grammar.specs.FirstFault.{not_utf8, at, truncated}
 use Rattle.report.specs.declared.refusal.Refusal.{Refusal}
-use Rattle.report.specs.declared.refusal.Refusal.TheVariants.{Usage, Document, Rule, Excess as Exceeds, Malformed, Rejected, TooLong, ReadFault, WriteFault, NoMemory}
+use Rattle.report.specs.declared.refusal.Refusal.TheVariants.{Usage, Document, Rule, Excess as Exceeds, Malformed, Rejected, MalformedFiring, RejectedFiring, TooLong, ReadFault, WriteFault, NoMemory}
 use Rattle.report.specs.declared.refusal.Excess.{Excess}
-use Rattle.report.specs.declared.refusal.Excess.TheVariants.{WideSum, WideRow, WideBound, WideCheck, RowBudget, SetLimit}
-use Rattle.report.specs.FaultLines.{document_line, rule_line, wide_sum_line, wide_row_line, wide_bound_line, wide_check_line, budget_line, limit_line, malformed_line, rejected_line, usage_line, length_line, read_line, write_line, memory_line}
+use Rattle.report.specs.declared.refusal.Excess.TheVariants.{WideSum, WideRow, WideBound, WideCheck, WideMarking, RowBudget, SetLimit}
+use Rattle.report.specs.FaultLines.{document_line, rule_line, wide_sum_line, wide_row_line, wide_bound_line, wide_check_line, budget_line, limit_line, malformed_line, rejected_line, firing_malformed_line, firing_rejected_line, wide_marking_line, usage_line, length_line, read_line, write_line, memory_line}
 use Rattle.pnml_source.specs.declared.reading.ReadAllFault.{ReadAllFault}
 use Rattle.pnml_source.specs.declared.reading.ReadAllFault.TheVariants as readings
 
@@ -32,6 +32,7 @@ excess_status (WideSum id) = 4
 excess_status (WideRow id) = 4
 excess_status (WideBound row) = 4
 excess_status (WideCheck row id) = 4
+excess_status (WideMarking member id) = 4
 excess_status (RowBudget budget id count) = 5
 excess_status (SetLimit limit) = 6
 
@@ -42,6 +43,8 @@ status_of (Rule fault) = rule_status fault
 status_of (Exceeds excess) = excess_status excess
 status_of (Malformed number) = 1
 status_of (Rejected number) = 1
+status_of (MalformedFiring number) = 1
+status_of (RejectedFiring member id) = 1
 status_of TooLong = 7
 status_of ReadFault = 8
 status_of WriteFault = 9
@@ -58,6 +61,7 @@ excess_line (WideSum id) = wide_sum_line id
 excess_line (WideRow id) = wide_row_line id
 excess_line (WideBound row) = wide_bound_line row
 excess_line (WideCheck row id) = wide_check_line row id
+excess_line (WideMarking member id) = wide_marking_line member id
 excess_line (RowBudget budget id count) = budget_line budget id count
 excess_line (SetLimit limit) = limit_line limit
 
@@ -68,6 +72,8 @@ line_of (Rule fault) = rule_line fault
 line_of (Exceeds excess) = excess_line excess
 line_of (Malformed number) = malformed_line number
 line_of (Rejected number) = rejected_line number
+line_of (MalformedFiring number) = firing_malformed_line number
+line_of (RejectedFiring member id) = firing_rejected_line member id
 line_of TooLong = length_line
 line_of ReadFault = read_line
 line_of WriteFault = write_line

@@ -1,6 +1,6 @@
 ghost use Rattle.std.specs.Prelude.{map};
 ghost use Rattle.pnml_source.specs.Writing.{IsWritten};
-ghost use Rattle.report.specs.FaultLines.{joined, offset_line, id_line, unknown_line, rule_line, wide_line, wide_bound_line, wide_check_line, certificate_line, budget_line, limit_line};
+ghost use Rattle.report.specs.FaultLines.{joined, offset_line, id_line, unknown_line, rule_line, wide_line, wide_bound_line, wide_check_line, wide_marking_line, numbered_line, firing_rejected_line, budget_line, limit_line};
 ghost use Rattle.report.specs.Refusals.{line_of, fault_line, excess_line};
 
 use crate::reason_words::reason_words;
@@ -23,8 +23,10 @@ pub fn tell<O: Sink>(sink: &mut O, refusal: &Refusal) -> Result<(), WriteFault>
         Refusal::Document(fault) => tell_document(sink, fault),
         Refusal::Rule(fault) => tell_rule(sink, fault),
         Refusal::Excess(excess) => tell_excess(sink, excess),
-        Refusal::Malformed(number) => tell_line(sink, b"malformed", *number),
-        Refusal::Rejected(number) => tell_line(sink, b"rejected", *number),
+        Refusal::Malformed(number) => tell_line(sink, b"certificate malformed", *number),
+        Refusal::Rejected(number) => tell_line(sink, b"certificate rejected", *number),
+        Refusal::MalformedFiring(number) => tell_line(sink, b"firing list malformed", *number),
+        Refusal::RejectedFiring(member, id) => tell_rejected_firing(sink, *member, id),
         Refusal::TooLong => write_all(sink, b"input too long\n"),
         Refusal::ReadFault => write_all(sink, b"read fault\n"),
         Refusal::WriteFault => write_all(sink, b"write fault\n"),
@@ -67,6 +69,7 @@ fn tell_excess<O: Sink>(sink: &mut O, excess: &Excess) -> Result<(), WriteFault>
         Excess::WideRow(id) => tell_wide(sink, b"wide row", id),
         Excess::WideBound(row) => tell_wide_bound(sink, *row),
         Excess::WideCheck(row, id) => tell_wide_check(sink, *row, id),
+        Excess::WideMarking(member, id) => tell_wide_marking(sink, *member, id),
         Excess::RowBudget(budget, id, count) => tell_budget(sink, *budget, id, *count),
         Excess::SetLimit(limit) => tell_limit(sink, *limit),
     }
@@ -138,14 +141,54 @@ fn tell_limit<O: Sink>(sink: &mut O, limit: u32) -> Result<(), WriteFault>
     )
 }
 
-/// A bad line of a certificate.
-#[tactic(auto, unfolding(crate::specs::FaultLines::certificate_line))]
+/// A bad line of what follows the document.
+#[tactic(auto, unfolding(crate::specs::FaultLines::numbered_line))]
 fn tell_line<O: Sink>(sink: &mut O, words: &[u8], number: u64) -> Result<(), WriteFault>
-    ensures { IsWritten (O.held sink.old) (O.held sink.new) (O.faults sink.old) (O.faults sink.new) (certificate_line words.now number) result }
+    ensures { IsWritten (O.held sink.old) (O.held sink.new) (O.faults sink.old) (O.faults sink.new) (numbered_line words.now number) result }
 {
     let mut buffer = Buffer::new();
     let digits = buffer.format(number).as_bytes();
-    write_pieces(sink, &[b"certificate ", words, b" at line ", digits, b"\n"])
+    write_pieces(sink, &[words, b" at line ", digits, b"\n"])
+}
+
+/// The line of a firing list whose transition isn't enabled, and the place that lacks tokens.
+#[tactic(auto, unfolding(crate::specs::FaultLines::firing_rejected_line))]
+fn tell_rejected_firing<O: Sink>(sink: &mut O, member: usize, id: &Text) -> Result<(), WriteFault>
+    ensures { IsWritten (O.held sink.old) (O.held sink.new) (O.faults sink.old) (O.faults sink.new) (firing_rejected_line member id.now) result }
+{
+    let mut buffer = Buffer::new();
+    let number = member as u128 + 1;
+    let digits = buffer.format(number).as_bytes();
+    write_pieces(
+        sink,
+        &[
+            b"firing list rejected at line ",
+            digits,
+            b": ",
+            id.as_bytes(),
+            b" lacks tokens\n",
+        ],
+    )
+}
+
+/// The line of a firing list whose transition would give a place too many tokens.
+#[tactic(auto, unfolding(crate::specs::FaultLines::wide_marking_line))]
+fn tell_wide_marking<O: Sink>(sink: &mut O, member: usize, id: &Text) -> Result<(), WriteFault>
+    ensures { IsWritten (O.held sink.old) (O.held sink.new) (O.faults sink.old) (O.faults sink.new) (wide_marking_line member id.now) result }
+{
+    let mut buffer = Buffer::new();
+    let number = member as u128 + 1;
+    let digits = buffer.format(number).as_bytes();
+    write_pieces(
+        sink,
+        &[
+            b"wide marking at line ",
+            digits,
+            b" in ",
+            id.as_bytes(),
+            b"\n",
+        ],
+    )
 }
 
 /// At an offset in the input, by the words of the reason.

@@ -18,9 +18,10 @@ mod verified_texts;
 
 pub use bound_texts::bounds_text;
 pub use fault_lines::tell;
+pub use lines::{push_answer, push_count};
 pub use net_texts::{check_text, class_text};
 pub use refusal::{Excess, Refusal, status};
-pub use semiflow_texts::{place_semiflows_text, transition_semiflows_text};
+pub use semiflow_texts::{place_semiflows_text, push_semiflows, transition_semiflows_text};
 pub use set_texts::{siphons_text, traps_text};
 pub use summary::{Summary, sample_text};
 pub use verdict_texts::{commoner_text, push_siphon};

@@ -21,6 +21,11 @@ pub enum Refusal {
     Malformed(u64),
     /// The condition of this line of the certificate, counted from 1, is false of the net.
     Rejected(u64),
+    /// The bytes behind the document are no firing list, by this line, counted from 1.
+    MalformedFiring(u64),
+    /// The transition of this member of the firing list, counted from 0, isn't enabled: the place of this id
+    /// lacks tokens.
+    RejectedFiring(usize, Text),
     /// The input has more bytes than may be read.
     TooLong,
     /// The source of the input failed.
@@ -31,7 +36,8 @@ pub enum Refusal {
     NoMemory,
 }
 
-/// Why the semiflows, the bounds, the siphons or the traps of a net aren't listed, or its bounds not certified.
+/// Why the semiflows, the bounds, the siphons or the traps of a net aren't listed, its bounds not certified, or a
+/// firing list not replayed.
 #[derive(Drop)]
 pub enum Excess {
     /// A sum at the column of this id exceeds 2^127 - 1.
@@ -42,6 +48,9 @@ pub enum Excess {
     WideBound(usize),
     /// A sum of this row of the list, counted from 0, at the column of this id exceeds 2^127 - 1.
     WideCheck(usize, Text),
+    /// The transition of this member of the firing list, counted from 0, would give the place of this id more
+    /// than 2^127 - 1 tokens.
+    WideMarking(usize, Text),
     /// The budget, the id of the column that passes it, and its number of candidates.
     RowBudget(u32, Text, u64),
     /// More siphons or traps than this are grown.
@@ -57,7 +66,10 @@ pub fn status(refusal: &Refusal) -> u8
         Refusal::Document(fault) => status_of_document(fault),
         Refusal::Rule(fault) => status_of_rule(fault),
         Refusal::Excess(excess) => status_of_excess(excess),
-        Refusal::Malformed(_) | Refusal::Rejected(_) => 1,
+        Refusal::Malformed(_)
+        | Refusal::Rejected(_)
+        | Refusal::MalformedFiring(_)
+        | Refusal::RejectedFiring(..) => 1,
         Refusal::TooLong => 7,
         Refusal::ReadFault => 8,
         Refusal::WriteFault => 9,
@@ -87,7 +99,11 @@ fn status_of_excess(excess: &Excess) -> u8
     ensures { result ≡ excess_status excess.now }
 {
     match excess {
-        Excess::WideSum(_) | Excess::WideRow(_) | Excess::WideBound(_) | Excess::WideCheck(..) => 4,
+        Excess::WideSum(_)
+        | Excess::WideRow(_)
+        | Excess::WideBound(_)
+        | Excess::WideCheck(..)
+        | Excess::WideMarking(..) => 4,
         Excess::RowBudget(..) => 5,
         Excess::SetLimit(_) => 6,
     }

@@ -45,12 +45,13 @@ fn semiflows_text(
 {
     let mut text = Text::new(alloc);
     push_semiflows(&mut text, kind, net, rows.as_slice())?;
-    push_count(&mut text, "semiflows", rows.len())?;
+    push_count(&mut text, "semiflows", rows.len() as u128)?;
     Ok(text)
 }
 
-/// Appends the lines of semiflows.
-fn push_semiflows(
+/// Appends the lines of vectors: each has the positive entries in order, each entry as its number, `*` and the id
+/// of its node.
+pub fn push_semiflows(
     text: &mut Text,
     kind: NodeKind,
     net: &FlatNet,

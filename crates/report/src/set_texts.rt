@@ -33,7 +33,7 @@ fn sets_text(alloc: Global, word: &str, net: &FlatNet, sets: &Sets) -> Result<Te
 {
     let mut text = Text::new(alloc);
     push_sets(&mut text, net, sets.as_slice())?;
-    push_count(&mut text, word, sets.len())?;
+    push_count(&mut text, word, sets.len() as u128)?;
     Ok(text)
 }
 

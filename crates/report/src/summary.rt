@@ -45,9 +45,9 @@ pub fn sample_text(alloc: Global, summary: &Summary) -> Result<Text, NoMemory>
 fn push_sizes(text: &mut Text, summary: &Summary) -> Result<(), NoMemory>
     ensures { OnOk result (text.new ≡ text.old ++ sizes_lines summary.now) }
 {
-    push_count(text, "places", summary.places)?;
-    push_count(text, "transitions", summary.transitions)?;
-    push_count(text, "arcs", summary.arcs)
+    push_count(text, "places", summary.places as u128)?;
+    push_count(text, "transitions", summary.transitions as u128)?;
+    push_count(text, "arcs", summary.arcs as u128)
 }
 
 /// Appends how long the lists are.
@@ -55,9 +55,13 @@ fn push_sizes(text: &mut Text, summary: &Summary) -> Result<(), NoMemory>
 fn push_findings(text: &mut Text, summary: &Summary) -> Result<(), NoMemory>
     ensures { OnOk result (text.new ≡ text.old ++ findings_lines summary.now) }
 {
-    push_count(text, "place-semiflows", summary.place_semiflows)?;
-    push_count(text, "transition-semiflows", summary.transition_semiflows)?;
-    push_count(text, "siphons", summary.siphons)
+    push_count(text, "place-semiflows", summary.place_semiflows as u128)?;
+    push_count(
+        text,
+        "transition-semiflows",
+        summary.transition_semiflows as u128,
+    )?;
+    push_count(text, "siphons", summary.siphons as u128)
 }
 
 /// Appends the greatest bound.

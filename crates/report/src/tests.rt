@@ -227,10 +227,13 @@ enum Refused {
     SetLimit,
     Malformed(u64),
     Rejected(u64),
+    MalformedFiring(u64),
+    RejectedFiring(usize),
+    WideMarking(usize),
     TooLong,
 }
 
-const LINES: [(Refused, u8, &str); 11] = [
+const LINES: [(Refused, u8, &str); 14] = [
     (
         Refused::Usage,
         2,
@@ -261,6 +264,17 @@ const LINES: [(Refused, u8, &str); 11] = [
         1,
         "certificate rejected at line 1000004\n",
     ),
+    (
+        Refused::MalformedFiring(2),
+        1,
+        "firing list malformed at line 2\n",
+    ),
+    (
+        Refused::RejectedFiring(2),
+        1,
+        "firing list rejected at line 3: é< lacks tokens\n",
+    ),
+    (Refused::WideMarking(3), 4, "wide marking at line 4 in é<\n"),
     (Refused::TooLong, 7, "input too long\n"),
 ];
 
@@ -277,6 +291,9 @@ fn refusal(alloc: Global, refused: Refused) -> Result<Refusal, NoMemory> {
         Refused::SetLimit => Refusal::Excess(Excess::SetLimit(7)),
         Refused::Malformed(number) => Refusal::Malformed(number),
         Refused::Rejected(number) => Refusal::Rejected(number),
+        Refused::MalformedFiring(number) => Refusal::MalformedFiring(number),
+        Refused::RejectedFiring(member) => Refusal::RejectedFiring(member, id),
+        Refused::WideMarking(member) => Refusal::Excess(Excess::WideMarking(member, id)),
         Refused::TooLong => Refusal::TooLong,
     })
 }

@@ -18,3 +18,6 @@ returns-in-NoMemory g c = rw c.in-NoMemory.is c.write_all-in-NoMemory.ensures
 
 pub returns-in-Malformed : goal.returns-in-Malformed
 returns-in-Malformed g c = rw c.in-Malformed.is c.tell_line.ensures
+
+pub returns-in-MalformedFiring : goal.returns-in-MalformedFiring
+returns-in-MalformedFiring g c = rw c.in-MalformedFiring.is c.tell_line-in-MalformedFiring.ensures
