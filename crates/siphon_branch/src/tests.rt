@@ -1,6 +1,6 @@
 use super::*;
 use net_values::{FlatNet, NoMemory, PlaceSet, Sets};
-use small_nets::{Arc, net_with};
+use small_nets::{Arc, net_with, place_set};
 use std::alloc::Global;
 use std::process::Abort;
 use std::test::Fail;
@@ -106,5 +106,60 @@ fn one_more_grown_siphon_than_the_limit_is_carried(rt: HostRuntime) -> Result<()
     let many = table_for(&rt, alloc, 100)?;
     assert_eq!(rt; outcome(alloc, &many, 199), (false, 200));
     assert_eq!(rt; outcome(alloc, &many, 200), (true, 200));
+    Ok(())
+}
+
+#[test]
+fn siphons_of_two_isles_by_a_search(rt: HostRuntime) -> Result<(), Fail> {
+    let alloc = rt.alloc();
+    let isles = net_with(alloc, &[0; 2], 0, &[])?;
+    let mut all = Search::start(alloc, &isles, 3)?;
+    assert_eq!(rt; all.advance(3), Ok(Progress::Done));
+    assert!(rt; has_rows(all.found(), &[&[0], &[1]]));
+    assert_eq!(rt; (all.origin().len(), all.pending().len()), (1, 0));
+    let mut one = Search::start(alloc, &isles, 3)?;
+    assert_eq!(rt; one.advance(1), Ok(Progress::More));
+    assert_eq!(rt; (one.met().len(), one.pending().len()), (1, 1));
+    let mut few = Search::start(alloc, &isles, 1)?;
+    assert_eq!(rt; few.advance(3), Err(AdvanceFault::SetLimit));
+    assert_eq!(rt; few.advance(1), Err(AdvanceFault::SetLimit));
+    assert_eq!(rt; few.met().len(), 2);
+    Ok(())
+}
+
+#[test]
+fn siphons_of_one_class(rt: HostRuntime) -> Result<(), Fail> {
+    let alloc = rt.alloc();
+    let isles = net_with(alloc, &[0; 2], 0, &[])?;
+    let contains = place_set(alloc, 2, &[0])?;
+    let avoids = place_set(alloc, 2, &[1])?;
+    assert!(rt; contains.size() == isles.places() && avoids.size() == isles.places());
+    let mut classes = Branches::new(alloc);
+    classes.push(Branch { contains, avoids })?;
+    let mut search = Search::start_from(alloc, &isles, classes, 3)?;
+    assert_eq!(rt; search.advance(3), Ok(Progress::Done));
+    assert!(rt; has_rows(search.found(), &[&[0]]));
+    Ok(())
+}
+
+#[test]
+fn a_search_held_after_each_siphon_finds_the_same(rt: HostRuntime) -> Result<(), Fail> {
+    let alloc = rt.alloc();
+    let table = table_for(&rt, alloc, 50)?;
+    let mut search = Search::start(alloc, &table, 100)?;
+    for met in 1..100 {
+        assert_eq!(rt; search.advance(1), Ok(Progress::More));
+        assert_eq!(rt; search.met().len(), met);
+    }
+    assert_eq!(rt; search.advance(1), Ok(Progress::Done));
+    let found = search.found();
+    match minimal_siphons(alloc, &table, 100) {
+        Ok(list) => {
+            assert_eq!(rt; found.len(), list.len());
+            let sets = found.as_slice();
+            assert!(rt; sets.iter().all(|set| list.as_slice().contains(set)));
+        }
+        Err(_) => assert!(rt; false),
+    }
     Ok(())
 }
