@@ -29,7 +29,7 @@ use Rattle.struct_core.specs.Sample.{sample_document}
 use Rattle.struct_core.specs.Enumerations.{FailedStep, wide_sum, wide_row, row_budget, SemiflowOutcome, all_semiflows, step_fails, PassedLimit, set_limit, SetOutcome, all_sets, passes_limit}
 use Rattle.struct_core.specs.Outcome.{TaskOutcome, Outcome, sample, sample_tasks, SampleOutcome, refused, goes_on, summary}
 use Rattle.struct_core.specs.Run.{Device, Answered, Ran, IsReadWhole, ReadsFor}
-use Rattle.struct_core.specs.Completeness.{IsQuiet, IsShort, NoStepFails, NoBoundIsWide, NoCheckIsWide, IsNarrow, IsFew, IsCertified, WritesText, QuietRunsComplete, QuietTasksComplete, QuietSamplesComplete}
+use Rattle.struct_core.specs.Completeness.{IsQuiet, IsShort, NoStepFails, NoBoundIsWide, NoCheckIsWide, IsNarrow, IsFew, IsFollowed, WritesText, QuietRunsComplete, QuietTasksComplete, QuietSamplesComplete}
 use Rattle.struct_core.specs.Inputs.{rest_of}
 use Rattle.struct_core.specs.Certificates.{CertBoundOutcome, certified, wide_check, no_bounds, CertVerdictOutcome, certified_verdict, no_verdict, VerifyOutcome, malformed, rejected, accepted}
 use Rattle.certificates.specs.declared.certificate.Certificate.{Certificate}
@@ -37,6 +37,7 @@ use Rattle.certificates.specs.BadLines.{Spells}
 use Rattle.certificates.specs.Conditions.{IsAccepted, LineHolds}
 use Rattle.certificates.proofs.OneReading.{one_reading}
 use Rattle.struct_core.proofs.Orders.{one_order, in_range}
+use Rattle.struct_core.proofs.FiringOutcomes.{replay_completes}
 use Rattle.struct_core.proofs.TaskAnswers.{task_answers, sample_answers}
 use Rattle.siphon_branch.proofs.Limits.{few_not_many}
 
@@ -116,7 +117,7 @@ verify_completes net bytes _ _ certificate spelled fine (rejected other number a
 verify_completes net bytes _ _ certificate spelled fine (accepted other text also holds told) = refl
 
 task_completes : (task : Task) (budgets : Budgets) (document : Document) (net : NetLists) (rest : List ℕ) (status : ℕ) (text : List ℕ)
-    → IsNarrow task budgets net → IsFew task budgets net → IsCertified task net rest → TaskOutcome task budgets document net rest status text → status ≡ 0
+    → IsNarrow task budgets net → IsFew task budgets net → IsFollowed task net rest → TaskOutcome task budgets document net rest status text → status ≡ 0
 task_completes tasks.Check budgets document net rest status text narrow few fine outcome = outcome.0
 task_completes tasks.Canon budgets document net rest status text narrow few fine outcome = outcome.0
 task_completes tasks.Class budgets document net rest status text narrow few fine outcome = outcome.0
@@ -134,6 +135,8 @@ task_completes tasks.CertCommoner budgets document net rest status text narrow f
 task_completes tasks.Verify budgets document net rest status text narrow few fine outcome =
     verify_completes (net_of net) rest status text fine.0 fine.1 fine.2 outcome
 task_completes tasks.Live budgets document net rest status text narrow few fine outcome = live_completes _ _ _ status text few outcome
+task_completes tasks.Replay budgets document net rest status text narrow few fine outcome =
+    replay_completes _ _ _ rest status text fine.0 fine.1 fine.2 outcome
 
 -- ---- the run
 
@@ -141,7 +144,7 @@ module _ (words : List (List ℕ)) (task : Task) (budgets : Budgets) (source sou
     (input : List ℕ) (document : Document) (net : NetLists) (ran : Ran words source source' out out' status line)
     (means : Means words (Run task budgets)) (reads : IsQuiet source source') (writes : IsQuiet out out') (tells : source.bytes ≡ Some input)
     (short : IsShort task input document) (flat : Flat document net) (narrow : IsNarrow task budgets net) (few : IsFew task budgets net)
-    (fine : IsCertified task net (rest_of task input)) where
+    (fine : IsFollowed task net (rest_of task input)) where
   not_usage : status ≢ 2
   not_usage is = ran.usage is (Run task budgets) means
 
@@ -195,7 +198,7 @@ quiet_tasks words task budgets source source' out out' err err' status input doc
 -- ---- a sample
 
 sample_completes : (document : Document) (net : NetLists) (later : List Task) (status : ℕ) (text : List ℕ)
-    → AllByRecursion (λ task. IsNarrow task default_budgets net × IsFew task default_budgets net × IsCertified task net []) later → SampleOutcome document net later status text → status ≡ 0
+    → AllByRecursion (λ task. IsNarrow task default_budgets net × IsFew task default_budgets net × IsFollowed task net []) later → SampleOutcome document net later status text → status ≡ 0
 sample_completes document net _ _ _ within (refused task later status line fails outcome) =
     absurd (fails (task_completes task default_budgets document net [] status line within.0.0 within.0.1 within.0.2 outcome))
 sample_completes document net _ _ _ within (goes_on task later report status text outcome rest) = sample_completes document net later status text within.1 rest
@@ -203,7 +206,7 @@ sample_completes document net _ _ _ within (summary numbers is) = refl
 
 -- the tasks of a sample ask for nothing after the document
 without_rest : (net : NetLists) → AllByRecursion (λ task. IsNarrow task default_budgets net × IsFew task default_budgets net) sample_tasks
-    → AllByRecursion (λ task. IsNarrow task default_budgets net × IsFew task default_budgets net × IsCertified task net []) sample_tasks
+    → AllByRecursion (λ task. IsNarrow task default_budgets net × IsFew task default_budgets net × IsFollowed task net []) sample_tasks
 without_rest net within =
     let one = within.0 in
     let two = within.1.0 in

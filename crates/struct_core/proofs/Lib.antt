@@ -24,6 +24,7 @@ pub mod OneSummary
 pub mod Greatest
 pub mod Summing
 pub mod OneLiveness
+pub mod FiringOutcomes
 pub mod OneCertificate
 pub mod OneOutcome
 pub mod SomeBounds

@@ -5,8 +5,8 @@ use Rattle.page_flatten.specs.declared.fault.FlatFault.TheVariants as rules
 use Rattle.pnml_decode.specs.declared.fault.DocFault.TheVariants as documents
 use Rattle.pnml_source.specs.Writing.{IsWritten}
 use Rattle.report.specs.declared.refusal.Refusal.{Refusal}
-use Rattle.report.specs.declared.refusal.Refusal.TheVariants.{Usage, Document, Rule, Excess as Exceeds, Malformed, Rejected, TooLong, ReadFault, WriteFault, NoMemory}
-use Rattle.report.specs.declared.refusal.Excess.TheVariants.{WideSum, WideRow, WideBound, WideCheck, RowBudget, SetLimit}
+use Rattle.report.specs.declared.refusal.Refusal.TheVariants.{Usage, Document, Rule, Excess as Exceeds, Malformed, Rejected, MalformedFiring, RejectedFiring, TooLong, ReadFault, WriteFault, NoMemory}
+use Rattle.report.specs.declared.refusal.Excess.TheVariants.{WideSum, WideRow, WideBound, WideCheck, WideMarking, RowBudget, SetLimit}
 use Rattle.report.specs.Refusals.{status_of, line_of}
 use Rattle.struct_core.specs.Run.{Device, Ran, Says, HasRun}
 
@@ -26,10 +26,13 @@ fails (Exceeds (WideSum id)) is = absurd (omega (arith, is))
 fails (Exceeds (WideRow id)) is = absurd (omega (arith, is))
 fails (Exceeds (WideBound row)) is = absurd (omega (arith, is))
 fails (Exceeds (WideCheck row id)) is = absurd (omega (arith, is))
+fails (Exceeds (WideMarking member id)) is = absurd (omega (arith, is))
 fails (Exceeds (RowBudget budget id count)) is = absurd (omega (arith, is))
 fails (Exceeds (SetLimit limit)) is = absurd (omega (arith, is))
 fails (Malformed number) is = absurd (omega (arith, is))
 fails (Rejected number) is = absurd (omega (arith, is))
+fails (MalformedFiring number) is = absurd (omega (arith, is))
+fails (RejectedFiring member id) is = absurd (omega (arith, is))
 fails TooLong is = absurd (omega (arith, is))
 fails ReadFault is = absurd (omega (arith, is))
 fails WriteFault is = absurd (omega (arith, is))

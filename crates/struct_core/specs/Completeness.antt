@@ -1,5 +1,6 @@
 -- When a run is sure to write its text: no device fails, the document is in the profile, the numbers of its
--- elimination stay narrow, its search has few sets to meet, and a certificate to be verified is accepted.
+-- elimination stay narrow, its search has few sets to meet, a certificate to be verified is accepted, and a list to be
+-- replayed fires.
 use Rattle.std.specs.Prelude.{◌≡◌, ◌⊎◌, ℕ, ◌-◌, ◌^◌, ◌≤◌, ◌<◌, List, Option, Some, length}
 use Rattle.std.specs.Io.KnownBytes.{Appends}
 use Rattle.net_values.specs.declared.document.Document.{Document}
@@ -28,6 +29,9 @@ use Rattle.struct_core.specs.declared.order.Budgets.{Budgets}
 use Rattle.struct_core.specs.declared.order.Order.{Order}
 use Rattle.struct_core.specs.declared.order.Order.TheVariants.{Run, Sample}
 use Rattle.free_choice_live.specs.Answers.{IsAsked}
+use Rattle.net_replay.specs.FiringLists.{ListsFirings}
+use Rattle.net_replay.specs.Replays.{FiresWithinRange}
+use Rattle.net_values.specs.Nodes.{transition_id}
 use Rattle.struct_core.specs.Inputs.{front_of, rest_of}
 use Rattle.struct_core.specs.Outcome.{Outcome, Profile, sample_tasks}
 use Rattle.std.specs.List.{AllByRecursion}
@@ -79,10 +83,13 @@ IsFew tasks.CertCommoner budgets net = HasAtMostGrown (net_of net) budgets.sets
 IsFew tasks.Live budgets net = IsAsked (net_of net) → HasAtMostGrown (net_of net) budgets.sets
 IsFew _ budgets net = Unit
 
--- the bytes after the document are what the task asks for: for `verify` a certificate that the net accepts
-abbrev pub IsCertified : Task → NetLists → List ℕ → Type 0
-IsCertified tasks.Verify net rest = (certificate : Certificate) × Spells certificate rest × IsAccepted (net_of net) certificate
-IsCertified _ net rest = Unit
+-- the bytes after the document are what the task asks for: for `verify` a certificate that the net accepts, for
+-- `replay` a firing list that fires within range
+abbrev pub IsFollowed : Task → NetLists → List ℕ → Type 0
+IsFollowed tasks.Verify net rest = (certificate : Certificate) × Spells certificate rest × IsAccepted (net_of net) certificate
+IsFollowed tasks.Replay net rest =
+    (ts : List ℕ) × ListsFirings (net_of net) (transition_id net) rest ts × FiresWithinRange (net_of net) ts
+IsFollowed _ net rest = Unit
 
 -- the status is 0, and the text of the order for the input was written
 pub record WritesText (order : Order) (input : List ℕ) (out out' : Device) (status : ℕ) : Type 0 where
@@ -100,7 +107,7 @@ QuietTasksComplete =
     (input : List ℕ) (document : Document) (net : NetLists)
     → HasRun words source source' out out' err err' status → Means words (Run task budgets)
     → IsQuiet source source' → IsQuiet out out' → source.bytes ≡ Some input → IsShort task input document
-    → Flat document net → IsNarrow task budgets net → IsFew task budgets net → IsCertified task net (rest_of task input)
+    → Flat document net → IsNarrow task budgets net → IsFew task budgets net → IsFollowed task net (rest_of task input)
     → WritesText (Run task budgets) input out out' status ⊎ (status ≡ 10)
 
 -- `sample` needs neither a quiet source nor a short input, but that its net is narrow and has few sets

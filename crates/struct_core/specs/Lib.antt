@@ -5,6 +5,7 @@ pub mod Matrices
 pub mod Enumerations
 pub mod Verdicts
 pub mod Certificates
+pub mod FiringLists
 pub mod Inputs
 pub mod Sample
 pub mod Summaries

@@ -2,7 +2,7 @@
 use Rattle.std.specs.Prelude.{◌≡◌, ℕ, ◌≤◌, List, [], ◌∷◌, ◌++◌, Option, Some, codes, decimal}
 use Rattle.pnml_grammar.specs.Elements.{kind_named}
 use Rattle.struct_core.specs.declared.order.Task.{Task}
-use Rattle.struct_core.specs.declared.order.Task.TheVariants.{Check, Canon, Class, Places, Transitions, Siphons, Traps, Bounds, Commoner, CertBounds, CertCommoner, Verify, Live}
+use Rattle.struct_core.specs.declared.order.Task.TheVariants.{Check, Canon, Class, Places, Transitions, Siphons, Traps, Bounds, Commoner, CertBounds, CertCommoner, Verify, Live, Replay}
 use Rattle.struct_core.specs.declared.order.Budget.{Budget}
 use Rattle.struct_core.specs.declared.order.Budget.TheVariants.{Rows, Sets}
 use Rattle.struct_core.specs.declared.order.Order.{Order}
@@ -15,10 +15,10 @@ use Rattle.struct_core.specs.declared.order.Budgets.{Budgets}
 unfoldable pub task_words : List (List ℕ)
 task_words =
     codes "check" ∷ codes "canon" ∷ codes "class" ∷ codes "places" ∷ codes "transitions" ∷ codes "siphons" ∷ codes "traps"
-    ∷ codes "bounds" ∷ codes "commoner" ∷ codes "cert-bounds" ∷ codes "cert-commoner" ∷ codes "verify" ∷ codes "live" ∷ []
+    ∷ codes "bounds" ∷ codes "commoner" ∷ codes "cert-bounds" ∷ codes "cert-commoner" ∷ codes "verify" ∷ codes "live" ∷ codes "replay" ∷ []
 
 unfoldable pub tasks : List Task
-tasks = Check ∷ Canon ∷ Class ∷ Places ∷ Transitions ∷ Siphons ∷ Traps ∷ Bounds ∷ Commoner ∷ CertBounds ∷ CertCommoner ∷ Verify ∷ Live ∷ []
+tasks = Check ∷ Canon ∷ Class ∷ Places ∷ Transitions ∷ Siphons ∷ Traps ∷ Bounds ∷ Commoner ∷ CertBounds ∷ CertCommoner ∷ Verify ∷ Live ∷ Replay ∷ []
 
 -- the task that has the word
 unfoldable pub task_named : List ℕ → Option Task

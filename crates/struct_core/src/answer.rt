@@ -7,6 +7,7 @@ use crate::certified::{bounds_certified, verdict_certified};
 use crate::inputs::split;
 use crate::order::{Budgets, Task};
 use crate::place_bounds::bound_report;
+use crate::replays::replay_report;
 use crate::semiflows::semiflow_report;
 use crate::siphons::{siphon_report, trap_report};
 use crate::verdicts::{commoner_report, live_report};
@@ -61,5 +62,6 @@ fn text_of(
         Task::CertCommoner => verdict_certified(alloc, document, net, budgets.sets),
         Task::Verify => verify_report(alloc, net, rest),
         Task::Live => live_report(alloc, net, budgets.sets),
+        Task::Replay => replay_report(alloc, net, rest),
     }
 }

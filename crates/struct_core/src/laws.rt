@@ -63,8 +63,9 @@ pub fn some_outcome()
     ensures { HasSomeOutcome }
 {}
 
-/// A run without faults, on a document of the profile whose net stays within the limits of the task, and for
-/// `verify` with a certificate that the net accepts, writes the defined text, or memory was refused.
+/// A run without faults, on a document of the profile whose net stays within the limits of the task, for `verify`
+/// with a certificate that the net accepts, and for `replay` with a firing list that fires within range, writes the
+/// defined text, or memory was refused.
 pub fn quiet_runs_complete()
     ensures { QuietRunsComplete }
 {}

@@ -8,6 +8,7 @@ mod laws;
 mod order;
 mod philosophers;
 mod place_bounds;
+mod replays;
 mod running;
 mod sample;
 mod semiflows;

@@ -33,9 +33,11 @@ pub enum Task {
     Verify,
     /// Whether a free-choice net is proved to be live.
     Live,
+    /// What a firing list does to the net.
+    Replay,
 }
 
-const TASK_ORDER: [Task; 13] = [
+const TASK_ORDER: [Task; 14] = [
     Task::Check,
     Task::Canon,
     Task::Class,
@@ -49,6 +51,7 @@ const TASK_ORDER: [Task; 13] = [
     Task::CertCommoner,
     Task::Verify,
     Task::Live,
+    Task::Replay,
 ];
 
 impl Task {
