@@ -14,6 +14,7 @@ for line in \
     'cert-bounds:a certificate of the bounds' \
     'cert-commoner:a certificate of the verdict' \
     'verify:check a certificate' \
+    'replay:fire a list of transitions' \
     'sample:a summary for N philosophers'
     set -l parts (string split -m 1 : $line)
     complete -c pnmlstruct -n __fish_use_subcommand -a $parts[1] -d $parts[2]
