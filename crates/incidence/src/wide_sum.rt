@@ -8,6 +8,10 @@ pub struct WideSum;
 pub fn add_product(total: u128, factor: u128, amount: u128) -> Result<u128, WideSum>
     ensures { OkIff result (total + factor * amount < 2 ^ 127) (total + factor * amount) }
 {
+    // Most factors are 0, which this tells without a wide multiplication.
+    if factor == 0 && total <= i128::MAX as u128 {
+        return Ok(total);
+    }
     let product = factor.checked_mul(amount).ok_or(WideSum)?;
     let sum = total.checked_add(product).ok_or(WideSum)?;
     if sum > i128::MAX as u128 {

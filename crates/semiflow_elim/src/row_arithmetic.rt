@@ -90,7 +90,9 @@ pub(crate) fn scaled_sum(
     ensures ok { IfOk result (λ sums. IsScaledSum x r.now y s.now (length r.now) sums.items) }
     ensures wide { IfErr result (λ fault. fault ≡ RowFault.Wide → HasWideEntry x r.now y s.now) }
 {
-    let mut sums = Vec::new(alloc);
+    let Ok(mut sums) = Vec::with_capacity(alloc, r.len()) else {
+        return Err(RowFault::NoMemory);
+    };
     for i in 0..r.len() {
         match scaled_entry(x, r[i], y, s[i]) {
             Ok(entry) => {
