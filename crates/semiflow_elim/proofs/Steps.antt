@@ -1,9 +1,9 @@
 -- The sums of the rows of a step: the signs that are read off them are those of the rows.
-use Rattle.std.proofs.Common.{◌≡◌, refl, sym, ap, ◌∙◌, subst, ℕ, suc, ◌+◌, ◌*◌, ◌<◌, ◌==◌, nat_lt, Bool, cond, List, [], ◌∷◌, ◌++◌, length, get_or, slice_index, count_by, All, inl, inr, arith}
+use Rattle.std.proofs.Common.{◌≡◌, refl, sym, ap, ◌∙◌, subst, ℕ, suc, ◌+◌, ◌*◌, ◌<◌, ◌==◌, nat_lt, Bool, cond, List, [], ◌∷◌, ◌++◌, length, get_or, slice_index, count_by, inl, inr, arith}
 use Rattle.std.proofs.lemmas.Bool.{cases_lt}
 use Rattle.std.proofs.lemmas.List.{get_or_default, get_or_append_left, get_or_push, length_push}
 use Rattle.std.proofs.lemmas.List.Sums.{sum_by-cons}
-use Rattle.incidence.specs.Matrix.{Matrix, AreNarrow, gain_sum, loss_sum}
+use Rattle.incidence.specs.Matrix.{Matrix, gain_sum, loss_sum}
 use Rattle.semiflow_elim.specs.Bases.{IsBasis, in_set}
 use Rattle.semiflow_elim.specs.Candidates.{IsStep, AreSums, AreRead, IsRead, sums_of, signs_total}
 use Rattle.semiflow_elim.specs.Elimination.{AreNarrowAt, candidate_count, is_zero, is_positive, is_negative, row_of}
@@ -43,9 +43,6 @@ module _ (m : Matrix) (c : ℕ) (rows : List (List ℕ)) (sums : List RowSums) (
       ap (λ (z : ℕ). z + count_by (λ (own : RowSums). nat_lt own.loss own.gain) sums * count_by (λ (own : RowSums). nat_lt own.gain own.loss) sums) zeros
       ∙ ap (λ (p : ℕ). count_by (is_zero m c) rows + p * count_by (λ (own : RowSums). nat_lt own.gain own.loss) sums) positives
       ∙ ap (λ (n : ℕ). count_by (is_zero m c) rows + count_by (is_positive m c) rows * n) negatives
-
-  pub all_narrow : All (λ row. AreNarrow m c (slice_index row)) rows
-  all_narrow k d under = subst (λ (row : List ℕ). AreNarrow m c (slice_index row)) (get_or_default rows k [] d under) (h.narrow k under)
 
   pub sums_step : c < m.columns → (taken : List Bool) → IsBasis m (in_set taken) rows → IsStep m c rows sums
   sums_step column taken basis = record {

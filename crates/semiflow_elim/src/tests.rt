@@ -90,3 +90,33 @@ fn a_fan_of_ten_has_a_hundred_semiflows(rt: HostRuntime) -> Result<(), Fail> {
     }
     Ok(())
 }
+
+#[test]
+fn the_column_with_the_fewest_candidates_is_taken_first(rt: HostRuntime) -> Result<(), Fail> {
+    let alloc = rt.alloc();
+    let mut arcs = Vec::new(alloc);
+    for place in 0..6 {
+        arcs.push((place, 0, if place < 3 { -1 } else { 1 }))?;
+    }
+    for place in 0..3 {
+        arcs.push((place, 1, -1))?;
+    }
+    let funnel = net_with(alloc, &[0; 6], 2, arcs.as_slice())?;
+    let matrix = Incidence::of(alloc, &funnel)?;
+    match minimal_semiflows(alloc, &matrix, 8) {
+        Ok(rows) => assert_eq!(rt; rows.len(), 0),
+        Err(_) => assert!(rt; false, "the first column was taken first"),
+    }
+    match minimal_semiflows(alloc, &matrix, 2) {
+        Ok(_) => assert!(rt; false, "the budget was passed"),
+        Err(fault) => assert_eq!(rt; fault, ElimFault::RowBudget(1, 3)),
+    }
+    assert_eq!(rt; matrix.columns(), 2);
+    let mut tableau = Tableau::start(alloc, &matrix)?;
+    assert_eq!(rt; tableau.done(), 0);
+    match tableau.step(8) {
+        Ok(()) => assert!(rt; tableau.taken(1) && !tableau.taken(0) && tableau.done() == 1),
+        Err(_) => assert!(rt; false, "the step failed"),
+    }
+    Ok(())
+}
