@@ -9,10 +9,6 @@ use Rattle.incidence.specs.Matrix.{Matrix, gain_sum, loss_sum}
 abbrev pub all_columns : ℕ → Type 0
 all_columns j = Unit {0}
 
--- the first k columns
-abbrev pub first_columns : ℕ → ℕ → Type 0
-first_columns k j = j < k
-
 -- some entry is positive
 abbrev pub IsNonzero : Matrix → (ℕ → ℕ) → Type 0
 IsNonzero m y = (i : ℕ) × (i < m.rows) × (0 < y i)
