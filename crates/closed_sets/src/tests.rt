@@ -98,3 +98,19 @@ fn siphons_of_a_line_without_a_place(rt: HostRuntime) -> Result<(), Fail> {
     }
     Ok(())
 }
+
+#[test]
+fn open_transitions_of_a_set_that_grows(rt: HostRuntime) -> Result<(), Fail> {
+    let alloc = rt.alloc();
+    let line = net_with(alloc, &[0; 2], 1, LINE)?;
+    let mut set = place_set(alloc, 2, &[])?;
+    let mut opens = place_set(alloc, 1, &[])?;
+    assert!(rt; line.places() == 2 && set.size() == 2);
+    assert!(rt; line.transitions() == 1 && opens.size() == 1);
+    find_open(&line, &set, &mut opens);
+    add_place(&line, &mut set, &mut opens, 1);
+    assert!(rt; opens == place_set(alloc, 1, &[0])?);
+    add_place(&line, &mut set, &mut opens, 0);
+    assert!(rt; opens.is_empty());
+    Ok(())
+}

@@ -109,21 +109,35 @@ fn one_more_grown_siphon_than_the_limit_is_carried(rt: HostRuntime) -> Result<()
     Ok(())
 }
 
+/// What a search with this limit answers to a call for so many siphons, and how many it has met and found then,
+/// and how many classes are pending.
+fn advanced(
+    alloc: Global,
+    net: &FlatNet,
+    sets: u32,
+    leaves: u32,
+) -> Result<(Result<Progress, AdvanceFault>, [usize; 3]), NoMemory> {
+    let mut search = Search::start(alloc, net, sets)?;
+    let answer = search.advance(leaves.max(1));
+    let numbers = [
+        search.met().len(),
+        search.found().len(),
+        search.pending().len(),
+    ];
+    Ok((answer, numbers))
+}
+
 #[test]
 fn siphons_of_two_isles_by_a_search(rt: HostRuntime) -> Result<(), Fail> {
     let alloc = rt.alloc();
     let isles = net_with(alloc, &[0; 2], 0, &[])?;
-    let mut all = Search::start(alloc, &isles, 3)?;
-    assert_eq!(rt; all.advance(3), Ok(Progress::Done));
-    assert!(rt; has_rows(all.found(), &[&[0], &[1]]));
-    assert_eq!(rt; (all.origin().len(), all.pending().len()), (1, 0));
-    let mut one = Search::start(alloc, &isles, 3)?;
-    assert_eq!(rt; one.advance(1), Ok(Progress::More));
-    assert_eq!(rt; (one.met().len(), one.pending().len()), (1, 1));
-    let mut few = Search::start(alloc, &isles, 1)?;
-    assert_eq!(rt; few.advance(3), Err(AdvanceFault::SetLimit));
-    assert_eq!(rt; few.advance(1), Err(AdvanceFault::SetLimit));
-    assert_eq!(rt; few.met().len(), 2);
+    for (sets, leaves, answer, numbers) in [
+        (3, 3, Ok(Progress::Done), [2, 2, 0]),
+        (3, 1, Ok(Progress::More), [1, 1, 1]),
+        (1, 3, Err(AdvanceFault::SetLimit), [2, 2, 0]),
+    ] {
+        assert!(rt; advanced(alloc, &isles, sets, leaves)? == (answer, numbers));
+    }
     Ok(())
 }
 
@@ -133,33 +147,41 @@ fn siphons_of_one_class(rt: HostRuntime) -> Result<(), Fail> {
     let isles = net_with(alloc, &[0; 2], 0, &[])?;
     let contains = place_set(alloc, 2, &[0])?;
     let avoids = place_set(alloc, 2, &[1])?;
-    assert!(rt; contains.size() == isles.places() && avoids.size() == isles.places());
+    assert!(rt; contains.size() == isles.places());
+    assert!(rt; avoids.size() == isles.places());
     let mut classes = Branches::new(alloc);
     classes.push(Branch { contains, avoids })?;
     let mut search = Search::start_from(alloc, &isles, classes, 3)?;
-    assert_eq!(rt; search.advance(3), Ok(Progress::Done));
-    assert!(rt; has_rows(search.found(), &[&[0]]));
+    let answer = search.advance(3);
+    assert!(rt; answer == Ok(Progress::Done) && has_rows(search.found(), &[&[0]]));
     Ok(())
 }
 
+/// The minimal siphons by a search that is held after each siphon that it meets, where it meets so many.
+fn in_steps(alloc: Global, net: &FlatNet, sets: u32) -> Result<Option<Sets>, NoMemory> {
+    let mut search = Search::start(alloc, net, sets)?;
+    for _ in 1..sets {
+        if search.advance(1) != Ok(Progress::More) {
+            return Ok(None);
+        }
+    }
+    if search.advance(1) == Ok(Progress::Done) {
+        Ok(Some(search.into_list()))
+    } else {
+        Ok(None)
+    }
+}
+
 #[test]
-fn a_search_held_after_each_siphon_finds_the_same(rt: HostRuntime) -> Result<(), Fail> {
+fn a_search_held_after_each_siphon_gives_the_same_list(rt: HostRuntime) -> Result<(), Fail> {
     let alloc = rt.alloc();
     let table = table_for(&rt, alloc, 50)?;
-    let mut search = Search::start(alloc, &table, 100)?;
-    for met in 1..100 {
-        assert_eq!(rt; search.advance(1), Ok(Progress::More));
-        assert_eq!(rt; search.met().len(), met);
-    }
-    assert_eq!(rt; search.advance(1), Ok(Progress::Done));
-    let found = search.found();
-    match minimal_siphons(alloc, &table, 100) {
-        Ok(list) => {
-            assert_eq!(rt; found.len(), list.len());
-            let sets = found.as_slice();
-            assert!(rt; sets.iter().all(|set| list.as_slice().contains(set)));
-        }
-        Err(_) => assert!(rt; false),
+    match (
+        in_steps(alloc, &table, 100)?,
+        minimal_siphons(alloc, &table, 100),
+    ) {
+        (Some(steps), Ok(list)) => assert!(rt; steps.as_slice() == list.as_slice()),
+        _ => assert!(rt; false),
     }
     Ok(())
 }
