@@ -16,13 +16,18 @@ exchanged (suc n) y new loss old gain each =
     let last : y n * (new n + loss n) ≡ y n * (old n + gain n) = ap (λ x. y n * x) (each n (omega arith)) in
     omega arith
 
+-- a firing changes the weighted tokens by the two sums of its column
+pub moved : (net : Net) (y M : ℕ → ℕ) (t : ℕ) → IsEnabled net M t →
+    weighted_tokens net y (after net M t) + loss_sum (incidence_of net) t y ≡ weighted_tokens net y M + gain_sum (incidence_of net) t y
+moved net y M t enabled =
+    exchanged net.places y (after net M t) (λ p. negative_at (incidence_of net) p t) M (λ p. positive_at (incidence_of net) p t)
+    (λ p under. let enough : net.pre p t ≤ M p = enabled p under in omega arith)
+
 kept : (net : Net) (y M : ℕ → ℕ) (t : ℕ) → IsPlaceSemiflow net y → t < net.transitions → IsEnabled net M t → weighted_tokens net y (after net M t) ≡ weighted_tokens net y M
 kept net y M t flow below enabled =
-    let moved = exchanged net.places y (after net M t) (λ p. negative_at (incidence_of net) p t) M (λ p. positive_at (incidence_of net) p t)
-    (λ p under. let enough : net.pre p t ≤ M p = enabled p under in omega arith)
-    in
+    let change = moved net y M t enabled in
     let balanced : gain_sum (incidence_of net) t y ≡ loss_sum (incidence_of net) t y = flow.balanced t below tt in
-    omega (arith, moved, balanced)
+    omega (arith, change, balanced)
 
 pub weighted_tokens_stay : (net : Net) → WeightedTokensStay net
 weighted_tokens_stay net y M M' [] flow reached = below_same net.places (λ p. y p * M' p) (λ p. y p * M p) (λ p under. ap (λ x. y p * x) (reached p under))

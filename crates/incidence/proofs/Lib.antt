@@ -3,3 +3,4 @@ pub mod Firing
 pub mod Entries
 pub mod TableLemmas
 pub mod SumLemmas
+pub mod Extending

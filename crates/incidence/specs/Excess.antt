@@ -1,7 +1,8 @@
 -- The two sides of a net's incidence: what a transition gives a place beyond what it takes, and what it
 -- takes beyond what it gives.
-use Rattle.std.specs.Prelude.{◌≡◌, ℕ, ◌-◌, length}
+use Rattle.std.specs.Prelude.{◌≡◌, ℕ, ◌+◌, ◌-◌, length}
 use Rattle.net_values.specs.Net.{Net}
+use Rattle.incidence.specs.Matrix.{unit_at}
 use Rattle.incidence.specs.Tables.{Table, at}
 use Rattle.incidence.specs.declared.side.Side.{Side}
 use Rattle.incidence.specs.declared.side.Side.TheVariants.{Gain, Loss}
@@ -31,3 +32,9 @@ pub record FillsColumn (old new : Table) (side : Side) (net : Net) (t : ℕ) : T
   pub width : length new.lists ≡ length old.lists
   pub here : (p : ℕ) → at new p t ≡ excess_of side net p t
   pub others : (p u : ℕ) → (u ≡ t → ⊥) → at new p u ≡ at old p u
+
+-- below the rows of the places a row per transition was added, with a 1 at its own column
+pub record AddsUnits (old new : Table) (net : Net) : Type 0 where
+  pub height : new.height ≡ old.height + net.transitions
+  pub width : length new.lists ≡ length old.lists
+  pub each : (i t : ℕ) → at new i t ≡ at old i t + unit_at net i t

@@ -2,7 +2,7 @@
 -- `loss i j`. Only the difference counts, so it doesn't matter which of the many differences is written. Rows
 -- and columns are numbers below the two counts; what occurs past them doesn't count. A vector is a function of
 -- the row.
-use Rattle.std.specs.Prelude.{ℕ, ℤ, pos, ◌*◌, ◌-◌, ◌<◌, ◌^◌, ◌-ℤ◌}
+use Rattle.std.specs.Prelude.{ℕ, ℤ, pos, ◌+◌, ◌*◌, ◌-◌, ◌<◌, ◌^◌, ◌-ℤ◌, ◌==◌, ◌&&◌, nat_lt, if◌then◌else◌}
 use Rattle.net_values.specs.Net.{Net}
 use Rattle.incidence.specs.Sums.{sum_below}
 
@@ -40,6 +40,19 @@ incidence_of net = record {
   columns = net.transitions;
   gain = λ p t. net.post p t - net.pre p t;
   loss = λ p t. net.pre p t - net.post p t;
+}
+
+-- the extended incidence of a net: below the rows of the places a row per transition, with a 1 at its own column
+-- and 0 elsewhere
+abbrev pub unit_at : Net → ℕ → ℕ → ℕ
+unit_at net i t = if nat_lt t net.transitions && i == net.places + t then 1 else 0
+
+abbrev pub extended_of : Net → Matrix
+extended_of net = record {
+  rows = net.places + net.transitions;
+  columns = net.transitions;
+  gain = λ i t. if nat_lt i net.places then net.post i t - net.pre i t else unit_at net i t;
+  loss = λ i t. if nat_lt i net.places then net.pre i t - net.post i t else 0;
 }
 
 -- the two sums of a vector at a column: over the positive entries, and over the negated negative ones

@@ -1,10 +1,11 @@
 ghost use Rattle.std.specs.Prelude.{◌≡◌, ◌<◌, OkIff, IfOk, length, pos, slice_index};
 ghost use Rattle.net_values.specs.FlatNets.{net_of};
-ghost use Rattle.incidence.specs.Matrix.{AreNarrow, gain_sum, loss_sum, incidence_of, transposed, entry_of};
+ghost use Rattle.incidence.specs.Matrix.{AreNarrow, gain_sum, loss_sum, incidence_of, extended_of, transposed, entry_of};
 ghost use Rattle.incidence.specs.Tables.{matrix_of, IsIncidence};
 
 use crate::side::Side;
 use crate::sparse::SparseTable;
+use crate::units::add_units;
 use crate::wide_sum::WideSum;
 use net_values::{FlatNet, NoMemory, Vector};
 use std::alloc::Global;
@@ -37,6 +38,19 @@ impl Incidence {
             gains: Side::Gain.table(alloc, net)?,
             losses: Side::Loss.table(alloc, net)?,
         })
+    }
+
+    /// The extended incidence of a net: below the rows of its places a row per transition, with a 1 at the
+    /// transition's own column and 0 elsewhere. Its semiflows are the sub-semiflows of the places, each with
+    /// what the weighted tokens lose at each transition.
+    pub fn extended(alloc: Global, net: &FlatNet) -> Result<Incidence, NoMemory>
+        ensures { IfOk result (λ m. matrix_of m ≡ extended_of (net_of net.now)) }
+    {
+        let mut gains = Side::Gain.table(alloc, net)?;
+        let mut losses = Side::Loss.table(alloc, net)?;
+        add_units(&mut gains, net)?;
+        losses.add_rows(net.transitions());
+        Ok(Incidence { gains, losses })
     }
 
     /// The matrix with rows and columns exchanged.

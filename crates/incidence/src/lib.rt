@@ -10,6 +10,7 @@ mod sparse;
 #[cfg(test)]
 mod tests;
 mod tokens;
+mod units;
 mod wide_sum;
 
 pub use flat_sums::net_sums;

@@ -1,9 +1,9 @@
-ghost use Rattle.std.specs.Prelude.{◌≡◌, [], ◌+◌, ◌*◌, ◌<◌, ◌^◌, IfOk, OnOk, OnErr, OkIff, All, length, replicate, slice_index, sum_by, ℕ};
+ghost use Rattle.std.specs.Prelude.{◌≡◌, [], ◌+◌, ◌*◌, ◌<◌, ◌≤◌, ◌^◌, IfOk, OnOk, OnErr, OkIff, All, length, replicate, slice_index, sum_by, ℕ};
 ghost use Rattle.incidence.specs.Sums.{sum_below};
 ghost use Rattle.incidence.specs.Tables.{IsTable, AddsAt, AddsRow, IsTurned, amount_at, at, column_at};
 
 use crate::wide_sum::{WideSum, add_product};
-use net_values::{List, NoMemory};
+use net_values::{List, MAX_ENTRIES, NoMemory};
 use std::alloc::Global;
 use std::marker::Model;
 
@@ -90,6 +90,15 @@ impl SparseTable {
             self.columns[column].push(Amount { row, amount })?;
         }
         Ok(())
+    }
+
+    /// Adds this many empty rows below.
+    pub fn add_rows(&mut self, count: usize)
+        requires { self.old.height + count ≤ MAX_ENTRIES }
+        ensures rows { self.new ≡ record { height = self.old.height + count; lists = self.old.lists } }
+        ensures table { IsTable self.old }
+    {
+        self.height += count;
     }
 
     /// Adds amounts along a row, each at the column that its entry names.

@@ -29,6 +29,9 @@ fn sums_are_exact_up_to_the_limit(rt: HostRuntime) -> Result<(), Fail> {
     let matrix = Incidence::of(alloc, &net)?;
     assert!(rt; matrix.rows() == 2 && matrix.columns() == 1);
     assert_eq!(rt; (matrix.entry(0, 0), matrix.entry(1, 0)), (-2, 1 << 63));
+    let extended = Incidence::extended(alloc, &net)?;
+    assert!(rt; extended.rows() == 3 && extended.columns() == 1);
+    assert_eq!(rt; (extended.entry(0, 0), extended.entry(2, 0)), (-2, 1));
     let turned = matrix.transpose(alloc)?;
     assert!(rt; turned.rows() == 1 && turned.columns() == 2);
     assert_eq!(rt; (turned.entry(0, 0), turned.entry(0, 1)), (-2, 1 << 63));

@@ -1,0 +1,7 @@
+pub mod Sums
+pub mod Slack
+pub mod Cutting
+pub mod Ordering
+pub mod Listing
+pub mod Bounding
+pub mod Fronts

@@ -1,0 +1,9 @@
+//! Structural boundedness: the sub-semiflows of places, which bound a place whatever the initial marking is.
+#![tactic(auto)]
+
+mod cuts;
+mod extremal;
+mod laws;
+
+pub use extremal::{covered, sub_semiflows};
+pub use laws::{cuts_are_extremal, sub_semiflows_bound_places};
