@@ -110,6 +110,7 @@ fn open_transitions_of_a_set_that_grows(rt: HostRuntime) -> Result<(), Fail> {
     find_open(&line, &set, &mut opens);
     add_place(&line, &mut set, &mut opens, 1);
     assert!(rt; opens == place_set(alloc, 1, &[0])?);
+    assert!(rt; set.size() == line.places());
     add_place(&line, &mut set, &mut opens, 0);
     assert!(rt; opens.is_empty());
     Ok(())
