@@ -5,3 +5,4 @@ pub mod Ordering
 pub mod Listing
 pub mod Bounding
 pub mod Fronts
+pub mod Counting
