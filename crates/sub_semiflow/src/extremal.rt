@@ -6,7 +6,7 @@ ghost use Rattle.net_values.specs.FlatNets.{net_of};
 ghost use Rattle.net_values.specs.TheList.{IsTheList};
 ghost use Rattle.incidence.specs.Semiflow.{all_columns};
 ghost use Rattle.semiflow_elim.specs.Bases.{IsMinimalRow};
-ghost use Rattle.semiflow_elim.specs.FirstFail.{StepPasses, IsExplained};
+ghost use Rattle.semiflow_elim.specs.FirstFail.{EveryStepPasses, IsExplained};
 ghost use Rattle.semiflow_elim.specs.Generated.{IsGenerated};
 ghost use Rattle.sub_semiflow.specs.SubSemiflows.{IsExtremalRow, IsSubSemiflow};
 ghost use Rattle.sub_semiflow.specs.Texts.{is_covered};
@@ -28,8 +28,7 @@ pub fn sub_semiflows(alloc: Global, net: &FlatNet, rows: u32) -> Result<Rows, El
     ensures sizes { IfOk result (All (λ row. length row ≡ (net_of net.now).places)) }
     ensures cuts { IfOk result (λ list. (full : List (List ℕ)) ×
         IsTheList (slice_cmp nat_cmp) (IsMinimalRow (extended_of (net_of net.now)) all_columns) full × (list ≡ map (take (net_of net.now).places) full)) }
-    ensures passes { OnOk result ((j : ℕ) → j < (extended_of (net_of net.now)).columns →
-        StepPasses (extended_of (net_of net.now)) rows j) }
+    ensures passes { OnOk result (EveryStepPasses (extended_of (net_of net.now)) rows) }
     ensures fails { IfErr result (IsExplained (extended_of (net_of net.now)) rows) }
 {
     let Ok(matrix) = Incidence::extended(alloc, net) else {

@@ -7,7 +7,7 @@ use Rattle.incidence.specs.Semiflow.{IsSemiflow, all_columns}
 use Rattle.net_values.specs.FlatNets.{net_of}
 use Rattle.net_values.specs.TheList.{IsTheList}
 use Rattle.semiflow_elim.specs.Bases.{IsMinimalRow}
-use Rattle.semiflow_elim.specs.FirstFail.{StepPasses}
+use Rattle.semiflow_elim.specs.FirstFail.{EveryStepPasses}
 use Rattle.semiflow_elim.specs.Generated.{IsGenerated}
 use Rattle.sub_semiflow.specs.SubSemiflows.{IsExtremalRow}
 use Rattle.sub_semiflow.proofs.Listing.{cuts_listed, cuts_generate, sized, long_enough}
@@ -45,7 +45,7 @@ returns-in-Ok-cut-clause-sizes c =
 
 pub returns-in-Ok-cut-clause-passes : goal.returns-in-Ok-cut-clause-passes
 returns-in-Ok-cut-clause-passes c =
-    subst (λ (m : Matrix). (j : ℕ) → j < m.columns → StepPasses m c.args.rows j) c.in-Ok.ensures c.in_ok-list.ensures.passes
+    subst (λ (m : Matrix). EveryStepPasses m c.args.rows) c.in-Ok.ensures c.in_ok-list.ensures.passes
 
 pub returns-in-Ok-cut-clause-cuts : goal.returns-in-Ok-cut-clause-cuts
 returns-in-Ok-cut-clause-cuts c =
