@@ -1,5 +1,5 @@
 #!/usr/bin/env python3
-"""Times `places`, `transitions`, `siphons` and `traps` on nets of growing size, and compares the answers with
+"""Times `places`, `transitions`, `sub`, `siphons` and `traps` on nets of growing size, and compares the answers with
 those of 4ti2 and of gringo with clasp, where they are installed (packages 4ti2, gringo, clasp).
 
     bench/tasks.py [RUNS]
@@ -55,16 +55,16 @@ def timed(commands, folder):
 
 
 def semiflows(net, task, folder):
-    """The extreme rays of y >= 0, y.C = 0 by 4ti2."""
-    nodes, others = (list(net.places), net.transitions) if task == "places" else (net.transitions, list(net.places))
+    """The extreme rays of y >= 0, y.C = 0 by 4ti2, for `sub` those of y >= 0, y.C <= 0."""
+    nodes, others = (net.transitions, list(net.places)) if task == "transitions" else (list(net.places), net.transitions)
     rows = {other: [0] * len(nodes) for other in others}
     number = {node: i for i, node in enumerate(nodes)}
     for source, target, weight in net.arcs:
         takes = source in net.places
         place, transition = (source, target) if takes else (target, source)
-        node, other = (place, transition) if task == "places" else (transition, place)
+        node, other = (transition, place) if task == "transitions" else (place, transition)
         rows[other][number[node]] += -weight if takes else weight
-    for name, table in (("mat", list(rows.values())), ("sign", [[1] * len(nodes)]), ("rel", [["="] * len(others)])):
+    for name, table in (("mat", list(rows.values())), ("sign", [[1] * len(nodes)]), ("rel", [["<" if task == "sub" else "="] * len(others)])):
         with open(os.path.join(folder, "net." + name), "w") as out:
             out.write("%d %d\n" % (len(table), len(table[0])))
             out.writelines(" ".join(map(str, row)) + "\n" for row in table)
@@ -97,7 +97,7 @@ def closed_sets(net, task, folder):
 
 def answered(task, output):
     """The members of the program's answer."""
-    lines = [line.split() for line in output.decode().split("\n")[:-2]]
+    lines = [line.split() for line in output.decode().split("\n")[: -3 if task == "sub" else -2]]
     if task in ("siphons", "traps"):
         return {frozenset(line) for line in lines}
     return {frozenset((word.split("*")[1], int(word.split("*")[0])) for word in line) for line in lines}
@@ -105,7 +105,7 @@ def answered(task, output):
 
 def compared(net, task, output, seconds):
     """How many times as long the other program takes, as text."""
-    other = semiflows if task in ("places", "transitions") else closed_sets
+    other = closed_sets if task in ("siphons", "traps") else semiflows
     if not (RAYS if other is semiflows else CLASP):
         return "-"
     with tempfile.TemporaryDirectory() as folder:
@@ -126,10 +126,10 @@ def main():
     for family, members in FAMILIES:
         before = {}
         for net in members:
-            for task in ("places", "transitions", "siphons", "traps"):
+            for task in ("places", "transitions", "sub", "siphons", "traps"):
                 with written(net.document) as file:
                     output, seconds, memory = best(runs, [program, task], file.name)
-                last = output.decode().split("\n")[-2]
+                last = output.decode().split("\n")[-3 if task == "sub" else -2]
                 growth = "%.1f" % (seconds / before[task]) if task in before and family != "small" else ""
                 other = compared(net, task, output, seconds)
                 sizes = (len(net.places), len(net.transitions))

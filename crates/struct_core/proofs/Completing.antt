@@ -38,6 +38,8 @@ use Rattle.certificates.specs.Conditions.{IsAccepted, LineHolds}
 use Rattle.certificates.proofs.OneReading.{one_reading}
 use Rattle.struct_core.proofs.Orders.{one_order, in_range}
 use Rattle.struct_core.proofs.FiringOutcomes.{replay_completes}
+use Rattle.struct_core.specs.SubSemiflows.{SubOutcome, all_sub_semiflows, no_sub_semiflows}
+use Rattle.incidence.specs.Matrix.{extended_of}
 use Rattle.struct_core.proofs.TaskAnswers.{task_answers, sample_answers}
 use Rattle.siphon_branch.proofs.Limits.{few_not_many}
 
@@ -68,6 +70,12 @@ semiflows_complete : (m : Matrix) (ids columns : ℕ → List ℕ) (budget statu
     → SemiflowOutcome m ids columns budget status text → status ≡ 0
 semiflows_complete m ids columns budget _ _ narrow (all_semiflows list listed) = refl
 semiflows_complete m ids columns budget _ _ narrow (step_fails status line fails) = absurd (no_step_fails m columns budget status line narrow fails)
+
+sub_completes : (net : Net) (ids columns : ℕ → List ℕ) (budget status : ℕ) (text : List ℕ) → NoStepFails (extended_of net) budget
+    → SubOutcome net ids columns budget status text → status ≡ 0
+sub_completes net ids columns budget _ _ narrow (all_sub_semiflows rows list listed is) = refl
+sub_completes net ids columns budget _ _ narrow (no_sub_semiflows status line fails) =
+    absurd (no_step_fails (extended_of net) columns budget status line narrow fails)
 
 not_passed : (IsGrown : List Bool → Type 0) (limit status : ℕ) (line : List ℕ) → ((carried : List (List Bool)) → CarriesMore IsGrown limit carried → ⊥)
     → PassedLimit IsGrown limit status line → ⊥
@@ -135,6 +143,7 @@ task_completes tasks.CertCommoner budgets document net rest status text narrow f
 task_completes tasks.Verify budgets document net rest status text narrow few fine outcome =
     verify_completes (net_of net) rest status text fine.0 fine.1 fine.2 outcome
 task_completes tasks.Live budgets document net rest status text narrow few fine outcome = live_completes _ _ _ status text few outcome
+task_completes tasks.Sub budgets document net rest status text narrow few fine outcome = sub_completes _ _ _ _ status text narrow outcome
 task_completes tasks.Replay budgets document net rest status text narrow few fine outcome =
     replay_completes _ _ _ rest status text fine.0 fine.1 fine.2 outcome
 

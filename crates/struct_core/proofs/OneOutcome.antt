@@ -36,6 +36,7 @@ use Rattle.struct_core.proofs.OneListing.{one_semiflow_outcome, one_set_outcome}
 use Rattle.struct_core.proofs.OneVerdict.{one_bound_outcome, one_commoner_outcome}
 use Rattle.struct_core.proofs.OneLiveness.{one_live_outcome}
 use Rattle.struct_core.proofs.FiringOutcomes.{one_replay_outcome}
+use Rattle.struct_core.proofs.SubOutcomes.{one_sub_outcome}
 use Rattle.struct_core.proofs.OneCertificate.{one_cert_bound_outcome, one_cert_verdict_outcome, one_verify_outcome}
 use Rattle.siphon_branch.proofs.Limits.{few_not_many}
 
@@ -92,6 +93,7 @@ one_task_outcome tasks.CertCommoner budgets document net rest status other text 
 one_task_outcome tasks.Verify budgets document net rest status other text line one another =
     exactly (one_verify_outcome _ rest status other text line one another)
 one_task_outcome tasks.Live budgets document net rest status other text line one another = exactly (one_live_outcome _ _ _ status other text line one another)
+one_task_outcome tasks.Sub budgets document net rest status other text line one another = exactly (one_sub_outcome _ _ _ _ status other text line one another)
 one_task_outcome tasks.Replay budgets document net rest status other text line one another =
     exactly (one_replay_outcome _ _ _ rest status other text line one another)
 

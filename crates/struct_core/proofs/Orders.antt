@@ -1,13 +1,13 @@
 -- Words mean at most one order: their first word is that of one task or `sample`, and the words after it mean
 -- one number or one choice of budgets.
-use Rattle.std.proofs.Common.{◌≡◌, ℕ, List, [], ◌∷◌, Some, None, arith, refl, sym, ap, subst, ◌∙◌, length, get_or}
+use Rattle.std.proofs.Common.{◌≡◌, ℕ, ◌≤◌, List, [], ◌∷◌, Some, None, arith, refl, sym, ap, subst, ◌∙◌, length, get_or}
 use Rattle.std.specs.Prelude.{codes}
 use Rattle.std.proofs.lemmas.Option.{same_Some}
 use Rattle.struct_core.specs.declared.order.Task.{Task}
 use Rattle.struct_core.specs.declared.order.Budgets.{Budgets}
 use Rattle.struct_core.specs.declared.order.Order.{Order}
 use Rattle.struct_core.specs.declared.order.Order.TheVariants.{Run, Sample}
-use Rattle.struct_core.specs.Words.{task_words, tasks, task_named, IsNumber, MeanBudgets, MeansTask, MeansSample, Means, IsInRange, HasOneMeaning}
+use Rattle.struct_core.specs.Words.{task_words, tasks, task_named, most_rows, IsNumber, MeanBudgets, MeansTask, MeansSample, Means, IsInRange, HasOneMeaning}
 use Rattle.struct_core.proofs.WordNumbers.{one_number}
 use Rattle.struct_core.proofs.Options.{one_budgets}
 
@@ -52,6 +52,20 @@ sample_means first rest word text n begins one is same number = record {
   words_are = ap (λ (w : List ℕ). w ∷ rest) begins ∙ ap (λ (ws : List (List ℕ)). codes "sample" ∷ ws) (only rest word one is ∙ ap (λ (w : List ℕ). w ∷ []) (sym same));
   number = number;
 }
+
+-- more rows than the task may take mean nothing
+pub too_many_rows : (word : List ℕ) (rest : List (List ℕ)) (task : Task) (said : Budgets) → task_named word ≡ Some task → MeanBudgets rest said
+    → (said.rows ≤ most_rows task → ⊥) → (order : Order) → Means (word ∷ rest) order → ⊥
+too_many_rows word rest task said named means many (Run other budgets) is =
+    let first : is.word ≡ word = cc (is.words_are) in
+    let others : is.others ≡ rest = cc (is.words_are) in
+    let tasks_are : other ≡ task = same_Some other task (sym is.named ∙ ap task_named first ∙ named) in
+    let budgets_are : budgets ≡ said = one_budgets rest budgets said (subst (λ (t : List (List ℕ)). MeanBudgets t budgets) others is.said) means in
+    many (subst (λ (t : Task). said.rows ≤ most_rows t) tasks_are (subst (λ (b : Budgets). b.rows ≤ most_rows other) budgets_are is.within))
+too_many_rows word rest task said named means many (Sample n) is =
+    let first : word ≡ codes "sample" = cc (is.words_are) in
+    let both : Some task ≡ None = sym named ∙ ap task_named first ∙ sample_alone in
+    cc
 
 -- after the word of a task there are no other words than those of its options
 pub no_options : (word : List ℕ) (rest : List (List ℕ)) (task : Task) → task_named word ≡ Some task → ((budgets : Budgets) → MeanBudgets rest budgets → ⊥)

@@ -38,6 +38,7 @@ use Rattle.struct_core.proofs.SomeBounds.{narrow_or_first_wide, all_kept, all_si
 use Rattle.struct_core.proofs.SomeVerdict.{verdict_of}
 use Rattle.struct_core.proofs.SomeLiveness.{some_liveness}
 use Rattle.struct_core.proofs.FiringOutcomes.{some_replay_outcome}
+use Rattle.struct_core.proofs.SubOutcomes.{some_sub_outcome}
 use Rattle.struct_core.proofs.SomeFailure.{some_failure}
 use Rattle.struct_core.proofs.SomeCertificate.{some_cert_bounds, some_cert_verdict, some_verify, few_places}
 use Rattle.struct_core.specs.Determined.{IsSameText}
@@ -119,6 +120,7 @@ some_task_outcome tasks.CertCommoner budgets document net rest limit decided =
     some_cert_verdict _ _ _ limit (few_or_many (net_of net) budgets.sets).siphons (verdict_of (net_of net))
 some_task_outcome tasks.Verify budgets document net rest limit decided = some_verify (net_of net) rest
 some_task_outcome tasks.Live budgets document net rest limit decided = some_liveness _ _ _ (few_or_many (net_of net) budgets.sets).siphons (verdict_of (net_of net))
+some_task_outcome tasks.Sub budgets document net rest limit decided = some_sub_outcome _ _ _ _ decided
 some_task_outcome tasks.Replay budgets document net rest limit decided = some_replay_outcome _ _ _ rest
 
 -- ---- of an input

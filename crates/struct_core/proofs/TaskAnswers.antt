@@ -24,6 +24,7 @@ use Rattle.struct_core.specs.Enumerations.{SemiflowOutcome, SetOutcome}
 use Rattle.struct_core.specs.Verdicts.{BoundOutcome, CommonerOutcome, LiveOutcome}
 use Rattle.struct_core.specs.Certificates.{CertBoundOutcome, CertVerdictOutcome, VerifyOutcome}
 use Rattle.struct_core.specs.FiringLists.{ReplayOutcome}
+use Rattle.struct_core.specs.SubSemiflows.{SubOutcome}
 use Rattle.struct_core.specs.Inputs.{front_of, rest_of}
 use Rattle.pnml_grammar.specs.Canon.{canon}
 use Rattle.struct_core.specs.Outcome.{HasClass, TaskOutcome, Profile, Outcome, no_document, broken, answer, sample, sample_tasks, SampleOutcome, refused, goes_on, summary}
@@ -77,6 +78,8 @@ outcome_as tasks.Verify budgets document one other rest status text same is =
     subst (λ (net : Net). VerifyOutcome net rest status text) (same_net one other same) is
 outcome_as tasks.Live budgets document one other rest status text same is =
     subst (λ (n : Named). LiveOutcome n.0 n.1 budgets.sets status text) (same_named one other same) is
+outcome_as tasks.Sub budgets document one other rest status text same is =
+    subst (λ (n : Named). SubOutcome n.0 n.1 n.2 budgets.rows status text) (same_named one other same) is
 outcome_as tasks.Replay budgets document one other rest status text same is =
     subst (λ (n : Named). ReplayOutcome n.0 n.1 n.2 rest status text) (same_named one other same) is
 

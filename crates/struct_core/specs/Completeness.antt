@@ -19,7 +19,7 @@ use Rattle.incidence.specs.Semiflow.{all_columns}
 use Rattle.semiflow_elim.specs.Bases.{IsMinimalRow}
 use Rattle.std.specs.Cmp.Lexicographic.{slice_cmp}
 use Rattle.std.specs.Ordering.{nat_cmp}
-use Rattle.incidence.specs.Matrix.{Matrix, incidence_of, transposed}
+use Rattle.incidence.specs.Matrix.{Matrix, incidence_of, extended_of, transposed}
 use Rattle.semiflow_elim.specs.declared.fault.ElimFault.{ElimFault}
 use Rattle.semiflow_elim.specs.FirstFail.{IsFirstFail}
 use Rattle.siphon_branch.specs.Limits.{HasAtMostGrown, HasAtMostGrownTraps}
@@ -72,6 +72,7 @@ IsNarrow tasks.Transitions budgets net = NoStepFails (transposed (incidence_of (
 IsNarrow tasks.Bounds budgets net = NoStepFails (incidence_of (net_of net)) budgets.rows × NoBoundIsWide (net_of net)
 IsNarrow tasks.CertBounds budgets net =
     NoStepFails (incidence_of (net_of net)) budgets.rows × NoBoundIsWide (net_of net) × NoCheckIsWide (net_of net)
+IsNarrow tasks.Sub budgets net = NoStepFails (extended_of (net_of net)) budgets.rows
 IsNarrow _ budgets net = Unit
 
 -- the sets that the task's search meets are no more than the limit

@@ -2,7 +2,7 @@
 use Rattle.std.specs.Prelude.{◌≡◌, ◌⊎◌, ℕ, List, ◌++◌}
 use Rattle.net_values.specs.declared.document.Document.{Document}
 use Rattle.net_values.specs.FlatNets.{NetLists, net_of}
-use Rattle.incidence.specs.Matrix.{Matrix, incidence_of, transposed}
+use Rattle.incidence.specs.Matrix.{Matrix, incidence_of, extended_of, transposed}
 use Rattle.semiflow_elim.specs.declared.fault.ElimFault.{ElimFault}
 use Rattle.semiflow_elim.specs.Generated.{IsGenerated}
 use Rattle.semiflow_elim.specs.FirstFail.{IsFirstFail}
@@ -58,6 +58,7 @@ IsDecided tasks.Places budgets net = IsEliminationDecided (incidence_of (net_of 
 IsDecided tasks.Transitions budgets net = IsEliminationDecided (transposed (incidence_of (net_of net))) budgets.rows
 IsDecided tasks.Bounds budgets net = IsEliminationDecided (incidence_of (net_of net)) budgets.rows
 IsDecided tasks.CertBounds budgets net = IsEliminationDecided (incidence_of (net_of net)) budgets.rows
+IsDecided tasks.Sub budgets net = IsEliminationDecided (extended_of (net_of net)) budgets.rows
 IsDecided _ budgets net = Unit
 
 -- of a task every input has an outcome, where the elimination of its net is decided

@@ -33,6 +33,7 @@ use Rattle.struct_core.specs.Inputs.{front_of, rest_of}
 use Rattle.struct_core.specs.Verdicts.{BoundOutcome, CommonerOutcome, LiveOutcome}
 use Rattle.struct_core.specs.Certificates.{CertBoundOutcome, CertVerdictOutcome, VerifyOutcome}
 use Rattle.struct_core.specs.FiringLists.{ReplayOutcome}
+use Rattle.struct_core.specs.SubSemiflows.{SubOutcome}
 
 -- the classes to which a net belongs (Murata 1989)
 pub record HasClass (net : Net) (class : Class) : Type 0 where
@@ -64,6 +65,7 @@ TaskOutcome tasks.CertBounds budgets document net rest status text =
 TaskOutcome tasks.CertCommoner budgets document net rest status text = CertVerdictOutcome (net_of net) (canon document) budgets.sets status text
 TaskOutcome tasks.Verify budgets document net rest status text = VerifyOutcome (net_of net) rest status text
 TaskOutcome tasks.Live budgets document net rest status text = LiveOutcome (net_of net) (place_id net) budgets.sets status text
+TaskOutcome tasks.Sub budgets document net rest status text = SubOutcome (net_of net) (place_id net) (transition_id net) budgets.rows status text
 TaskOutcome tasks.Replay budgets document net rest status text = ReplayOutcome (net_of net) (place_id net) (transition_id net) rest status text
 
 -- what `sample` computes of its net

@@ -2,7 +2,7 @@
 use Rattle.std.specs.Prelude.{◌≡◌, ℕ, ◌≤◌, List, [], ◌∷◌, ◌++◌, Option, Some, codes, decimal}
 use Rattle.pnml_grammar.specs.Elements.{kind_named}
 use Rattle.struct_core.specs.declared.order.Task.{Task}
-use Rattle.struct_core.specs.declared.order.Task.TheVariants.{Check, Canon, Class, Places, Transitions, Siphons, Traps, Bounds, Commoner, CertBounds, CertCommoner, Verify, Live, Replay}
+use Rattle.struct_core.specs.declared.order.Task.TheVariants.{Check, Canon, Class, Places, Transitions, Siphons, Traps, Bounds, Commoner, CertBounds, CertCommoner, Verify, Live, Sub, Replay}
 use Rattle.struct_core.specs.declared.order.Budget.{Budget}
 use Rattle.struct_core.specs.declared.order.Budget.TheVariants.{Rows, Sets}
 use Rattle.struct_core.specs.declared.order.Order.{Order}
@@ -15,10 +15,10 @@ use Rattle.struct_core.specs.declared.order.Budgets.{Budgets}
 unfoldable pub task_words : List (List ℕ)
 task_words =
     codes "check" ∷ codes "canon" ∷ codes "class" ∷ codes "places" ∷ codes "transitions" ∷ codes "siphons" ∷ codes "traps"
-    ∷ codes "bounds" ∷ codes "commoner" ∷ codes "cert-bounds" ∷ codes "cert-commoner" ∷ codes "verify" ∷ codes "live" ∷ codes "replay" ∷ []
+    ∷ codes "bounds" ∷ codes "commoner" ∷ codes "cert-bounds" ∷ codes "cert-commoner" ∷ codes "verify" ∷ codes "live" ∷ codes "sub" ∷ codes "replay" ∷ []
 
 unfoldable pub tasks : List Task
-tasks = Check ∷ Canon ∷ Class ∷ Places ∷ Transitions ∷ Siphons ∷ Traps ∷ Bounds ∷ Commoner ∷ CertBounds ∷ CertCommoner ∷ Verify ∷ Live ∷ Replay ∷ []
+tasks = Check ∷ Canon ∷ Class ∷ Places ∷ Transitions ∷ Siphons ∷ Traps ∷ Bounds ∷ Commoner ∷ CertBounds ∷ CertCommoner ∷ Verify ∷ Live ∷ Sub ∷ Replay ∷ []
 
 -- the task that has the word
 unfoldable pub task_named : List ℕ → Option Task
@@ -50,6 +50,11 @@ abbrev pub most_of : Budget → ℕ
 most_of Rows = 100000
 most_of Sets = 1000000
 
+-- the most rows that the options of a task may say: those of `sub` have an entry per transition too
+abbrev pub most_rows : Task → ℕ
+most_rows Sub = 50000
+most_rows _ = most_of Rows
+
 -- the decimal text of a number in a range
 pub record IsNumber (least most : ℕ) (word : List ℕ) (number : ℕ) : Type 0 where
   pub spelled : word ≡ decimal number
@@ -72,13 +77,14 @@ pub record MeanBudgets (words : List (List ℕ)) (budgets : Budgets) : Type 0 wh
   pub rows : MeansBudget Rows front budgets.rows
   pub sets : MeansBudget Sets back budgets.sets
 
--- the word of a task, and its options
+-- the word of a task, and its options, with no more rows than it may take
 pub record MeansTask (words : List (List ℕ)) (task : Task) (budgets : Budgets) : Type 0 where
   pub word : List ℕ
   pub others : List (List ℕ)
   pub words_are : words ≡ word ∷ others
   pub named : task_named word ≡ Some task
   pub said : MeanBudgets others budgets
+  pub within : budgets.rows ≤ most_rows task
 
 -- `sample` and a number
 pub record MeansSample (words : List (List ℕ)) (n : ℕ) : Type 0 where

@@ -10,6 +10,7 @@ use crate::place_bounds::bound_report;
 use crate::replays::replay_report;
 use crate::semiflows::semiflow_report;
 use crate::siphons::{siphon_report, trap_report};
+use crate::subs::sub_report;
 use crate::verdicts::{commoner_report, live_report};
 use crate::verified::verify_report;
 use net_class::class;
@@ -62,6 +63,7 @@ fn text_of(
         Task::CertCommoner => verdict_certified(alloc, document, net, budgets.sets),
         Task::Verify => verify_report(alloc, net, rest),
         Task::Live => live_report(alloc, net, budgets.sets),
+        Task::Sub => sub_report(alloc, net, budgets.rows),
         Task::Replay => replay_report(alloc, net, rest),
     }
 }

@@ -57,8 +57,8 @@ pub fn one_outcome()
     ensures { HasOneOutcome }
 {}
 
-/// Every input has an outcome; for the semiflows, the bounds and their certificate, where it is decided that every step of the
-/// elimination passes or that one fails first.
+/// Every input has an outcome; for the semiflows, the sub-semiflows, the bounds and their certificate, where it is decided
+/// that every step of the elimination passes or that one fails first.
 pub fn some_outcome()
     ensures { HasSomeOutcome }
 {}

@@ -13,6 +13,7 @@ mod running;
 mod sample;
 mod semiflows;
 mod siphons;
+mod subs;
 mod tables;
 mod verdicts;
 mod verified;

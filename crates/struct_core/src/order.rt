@@ -33,11 +33,13 @@ pub enum Task {
     Verify,
     /// Whether a free-choice net is proved to be live.
     Live,
+    /// The extremal sub-semiflows of places.
+    Sub,
     /// What a firing list does to the net.
     Replay,
 }
 
-const TASK_ORDER: [Task; 14] = [
+const TASK_ORDER: [Task; 15] = [
     Task::Check,
     Task::Canon,
     Task::Class,
@@ -51,11 +53,12 @@ const TASK_ORDER: [Task; 14] = [
     Task::CertCommoner,
     Task::Verify,
     Task::Live,
+    Task::Sub,
     Task::Replay,
 ];
 
 impl Task {
-    ghost use Rattle.struct_core.specs.Words.{task_named};
+    ghost use Rattle.struct_core.specs.Words.{task_named, most_rows};
 
     /// The task that has this word.
     #[tactic(auto, unfolding(crate::specs::Words::task_named, crate::specs::Words::task_words, crate::specs::Words::tasks))]
@@ -64,6 +67,16 @@ impl Task {
     {
         let row = find_in(&TASKS.names, word)?;
         TASK_ORDER.get(row).copied()
+    }
+
+    /// The most candidate rows that the task may take. Those of `sub` have an entry per transition too.
+    pub fn most_rows(self) -> u32
+        ensures { result ≡ most_rows self }
+    {
+        match self {
+            Task::Sub => 50_000,
+            _ => Budget::Rows.most(),
+        }
     }
 }
 

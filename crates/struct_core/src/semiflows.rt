@@ -76,7 +76,7 @@ fn text_of(alloc: Global, net: &FlatNet, kind: NodeKind, rows: &Rows) -> Result<
 }
 
 /// The refusal for a fault of the elimination, whose columns are the nodes of a kind.
-fn refusal_of(
+pub(crate) fn refusal_of(
     alloc: Global,
     net: &FlatNet,
     matrix: &Incidence,

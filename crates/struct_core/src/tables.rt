@@ -4,7 +4,7 @@ ghost use Rattle.struct_core.specs.Words.{task_words as the_task_words, option_w
 use pnml_grammar::Names;
 
 /// The words of the tasks, in the order of [`Task`](crate::Task).
-pub const TASKS: Names<14> = Names {
+pub const TASKS: Names<15> = Names {
     names: [
         b"check",
         b"canon",
@@ -19,6 +19,7 @@ pub const TASKS: Names<14> = Names {
         b"cert-commoner",
         b"verify",
         b"live",
+        b"sub",
         b"replay",
     ],
 };
@@ -30,7 +31,7 @@ pub const OPTIONS: Names<2> = Names {
 
 /// The words of the tasks in table order.
 #[tactic(auto, unfolding(crate::specs::Words::task_words))]
-pub fn task_words() -> [&'static [u8]; 14]
+pub fn task_words() -> [&'static [u8]; 15]
     ensures { map (λ word. word.now) result ≡ the_task_words }
 {
     let Names { names } = TASKS;

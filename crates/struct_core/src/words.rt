@@ -29,7 +29,14 @@ fn read_order(word: &[u8], rest: &[Text]) -> Option<Order>
     ensures none { IfNone result ((order : Meaning) → Means (word.now ∷ rest.now) order → ⊥) }
 {
     match Task::named(word) {
-        Some(task) => Some(Order::Run(task, read_budgets(rest)?)),
+        Some(task) => {
+            let budgets = read_budgets(rest)?;
+            if budgets.rows <= task.most_rows() {
+                Some(Order::Run(task, budgets))
+            } else {
+                None
+            }
+        }
         None => read_sample(word, rest),
     }
 }

@@ -14,7 +14,7 @@ const OF_SIPHON: &[u8] = b"bad-siphon\nsiphon 0\nend\n";
 const TREE: &[u8] = b"commoner\nsplit 0\nempty\nsplit 1\nempty\ntrap\nend\n";
 
 /// The canonical line of a net, and what follows it.
-fn lines(alloc: Global, net: &Net, rest: &[u8]) -> Result<Vec<u8>, NoMemory> {
+pub fn lines(alloc: Global, net: &Net, rest: &[u8]) -> Result<Vec<u8>, NoMemory> {
     let mut bytes = Vec::from_slice(alloc, DECLARATION)?;
     bytes.extend_from_slice(document(alloc, net)?.as_slice())?;
     bytes.extend_from_slice(b"\n")?;

@@ -23,6 +23,10 @@ mod nets;
 #[cfg(test)]
 mod options;
 #[cfg(test)]
+mod replays;
+#[cfg(test)]
 mod semiflows;
 #[cfg(test)]
 mod siphons_and_traps;
+#[cfg(test)]
+mod sub_semiflows;

@@ -4,7 +4,7 @@ use net_values::NoMemory;
 use std::alloc::Global;
 use std::test::Fail;
 
-const MEANINGLESS: [(&str, &[&str]); 27] = [
+const MEANINGLESS: [(&str, &[&str]); 28] = [
     ("a leading zero", &["places", "--rows", "007"]),
     ("a zero", &["places", "--rows", "0"]),
     ("two zeros", &["places", "--sets", "00"]),
@@ -25,6 +25,7 @@ const MEANINGLESS: [(&str, &[&str]); 27] = [
         &["places", "--rows", "--sets", "5"],
     ),
     ("rows above the range", &["places", "--rows", "100001"]),
+    ("rows of sub above its range", &["sub", "--rows", "50001"]),
     ("sets above the range", &["siphons", "--sets", "1000001"]),
     (
         "a number above 2^128",
