@@ -11,6 +11,7 @@ for line in \
     'bounds:least bounds of the places' \
     'commoner:the siphon-trap verdict' \
     'live:liveness of a free-choice net' \
+    'sub:which places are bounded whatever the marking' \
     'cert-bounds:a certificate of the bounds' \
     'cert-commoner:a certificate of the verdict' \
     'verify:check a certificate' \
