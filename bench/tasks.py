@@ -55,16 +55,17 @@ def timed(commands, folder):
 
 
 def semiflows(net, task, folder):
-    """The extreme rays of y >= 0, y.C = 0 by 4ti2, for `sub` those of y >= 0, y.C <= 0."""
+    """The extreme rays of y >= 0, y.C = 0 by 4ti2; for `sub` those of y, z >= 0, y.C + z = 0, of which y is told."""
     nodes, others = (net.transitions, list(net.places)) if task == "transitions" else (list(net.places), net.transitions)
-    rows = {other: [0] * len(nodes) for other in others}
+    slack = len(others) if task == "sub" else 0
+    rows = {other: [0] * len(nodes) + [int(i == k) for k in range(slack)] for i, other in enumerate(others)}
     number = {node: i for i, node in enumerate(nodes)}
     for source, target, weight in net.arcs:
         takes = source in net.places
         place, transition = (source, target) if takes else (target, source)
         node, other = (transition, place) if task == "transitions" else (place, transition)
         rows[other][number[node]] += -weight if takes else weight
-    for name, table in (("mat", list(rows.values())), ("sign", [[1] * len(nodes)]), ("rel", [["<" if task == "sub" else "="] * len(others)])):
+    for name, table in (("mat", list(rows.values())), ("sign", [[1] * (len(nodes) + slack)]), ("rel", [["="] * len(others)])):
         with open(os.path.join(folder, "net." + name), "w") as out:
             out.write("%d %d\n" % (len(table), len(table[0])))
             out.writelines(" ".join(map(str, row)) + "\n" for row in table)
@@ -73,7 +74,7 @@ def semiflows(net, task, folder):
         return None, None
     with open(os.path.join(folder, "net.ray")) as rays:
         lines = rays.read().split("\n")[1:]
-    return {frozenset((nodes[i], int(n)) for i, n in enumerate(line.split()) if n != "0") for line in lines if line.strip()}, seconds
+    return {frozenset((nodes[i], int(n)) for i, n in enumerate(line.split()[: len(nodes)]) if n != "0") for line in lines if line.strip()}, seconds
 
 
 def closed_sets(net, task, folder):
