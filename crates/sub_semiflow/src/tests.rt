@@ -54,6 +54,7 @@ fn extremal_sub_semiflows_of_small_nets(rt: HostRuntime) -> Result<(), Fail> {
         let mut found = 0;
         for p in 0..net.places() {
             if covered(&list, p) {
+                assert!(rt; found < *count);
                 found += 1;
             }
         }
@@ -71,6 +72,7 @@ fn line(rt: &impl Abort, alloc: Global) -> Result<FlatNet, NoMemory> {
         text.push(id)?;
         net.add_place(text, 0)?;
     }
+    assert!(rt; net.transitions() < 8);
     net.add_transition(Text::new(alloc))?;
     assert!(rt; net.places() == 2 && net.transitions() == 1 && net.arcs() < 8);
     net.add_input(0, 0, 1)?;
