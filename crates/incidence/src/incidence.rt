@@ -1,4 +1,5 @@
-ghost use Rattle.std.specs.Prelude.{◌≡◌, ◌<◌, OkIff, IfOk, length, pos, slice_index};
+ghost use Rattle.std.specs.Prelude.{◌≡◌, ◌<◌, OkIff, IfOk, length, pos, slice_index, ℕ, false};
+ghost use Rattle.net_values.specs.PlaceSets.{has};
 ghost use Rattle.net_values.specs.FlatNets.{net_of};
 ghost use Rattle.incidence.specs.Matrix.{AreNarrow, gain_sum, loss_sum, incidence_of, extended_of, transposed, entry_of};
 ghost use Rattle.incidence.specs.Tables.{matrix_of, IsIncidence};
@@ -7,7 +8,7 @@ use crate::side::Side;
 use crate::sparse::SparseTable;
 use crate::units::add_units;
 use crate::wide_sum::WideSum;
-use net_values::{FlatNet, NoMemory, Vector};
+use net_values::{FlatNet, NoMemory, PlaceSet, Vector};
 use std::alloc::Global;
 use std::marker::Model;
 
@@ -86,6 +87,19 @@ impl Incidence {
         ensures { result ≡ entry_of (matrix_of self.now) row column }
     {
         self.gains.get(row, column) as i128 - self.losses.get(row, column) as i128
+    }
+
+    /// Puts the rows with a nonzero entry at a column into a set, with a place per row, and leaves its other
+    /// members. It takes no memory.
+    pub fn mark_rows(&self, column: usize, rows: &mut PlaceSet)
+        requires size { length rows.old ≡ (matrix_of self.now).rows }
+        requires column { column < (matrix_of self.now).columns }
+        ensures size { length rows.new ≡ length rows.old }
+        ensures gains { (i : ℕ) → has rows.new i ≡ false → (matrix_of self.now).gain i column ≡ 0 }
+        ensures losses { (i : ℕ) → has rows.new i ≡ false → (matrix_of self.now).loss i column ≡ 0 }
+    {
+        self.gains.mark_rows(column, rows);
+        self.losses.mark_rows(column, rows);
     }
 
     /// The two sums of a vector, with an entry per row, at a column: over the positive entries, and over

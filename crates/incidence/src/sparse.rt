@@ -1,9 +1,10 @@
-ghost use Rattle.std.specs.Prelude.{◌≡◌, [], ◌+◌, ◌*◌, ◌<◌, ◌≤◌, ◌^◌, IfOk, OnOk, OnErr, OkIff, All, length, replicate, slice_index, sum_by, ℕ};
+ghost use Rattle.std.specs.Prelude.{◌≡◌, [], ◌+◌, ◌*◌, ◌<◌, ◌≤◌, ◌^◌, IfOk, OnOk, OnErr, OkIff, All, length, replicate, slice_index, sum_by, ℕ, false};
+ghost use Rattle.net_values.specs.PlaceSets.{has};
 ghost use Rattle.incidence.specs.Sums.{sum_below};
 ghost use Rattle.incidence.specs.Tables.{IsTable, AddsAt, AddsRow, IsTurned, amount_at, at, column_at};
 
 use crate::wide_sum::{WideSum, add_product};
-use net_values::{List, MAX_ENTRIES, NoMemory};
+use net_values::{List, MAX_ENTRIES, NoMemory, PlaceSet};
 use std::alloc::Global;
 use std::marker::Model;
 
@@ -125,6 +126,17 @@ impl SparseTable {
         Ok(turned)
     }
 
+    /// Puts the rows of a column's positive amounts into a set, and leaves its other members. It takes no memory.
+    pub fn mark_rows(&self, column: usize, rows: &mut PlaceSet)
+        requires column { column < length self.now.lists }
+        requires size { length rows.old ≡ self.now.height }
+        ensures size { length rows.new ≡ length rows.old }
+        ensures marked { (i : ℕ) → has rows.new i ≡ false → at self.now i column ≡ 0 }
+        ensures kept { (i : ℕ) → has rows.new i ≡ false → has rows.old i ≡ false }
+    {
+        mark(self.column(column), rows);
+    }
+
     /// The sum of the amounts of a column, each times the factor of its row.
     pub fn weighted_sum(&self, factors: &[u128], column: usize) -> Result<u128, WideSum>
         requires factors { length factors.now ≡ self.now.height }
@@ -148,6 +160,18 @@ fn amount_of(amounts: &[Amount], row: usize) -> u128
         }
     }
     total
+}
+
+/// Puts the rows of the amounts into a set, and leaves its other members.
+fn mark(amounts: &[Amount], rows: &mut PlaceSet)
+    requires { All (λ entry. entry.row < length rows.old) amounts.now }
+    ensures size { length rows.new ≡ length rows.old }
+    ensures marked { (i : ℕ) → has rows.new i ≡ false → amount_at amounts.now i ≡ 0 }
+    ensures kept { (i : ℕ) → has rows.new i ≡ false → has rows.old i ≡ false }
+{
+    for entry in amounts {
+        rows.insert(entry.row);
+    }
 }
 
 /// The sum of the amounts, each times the factor of its row.

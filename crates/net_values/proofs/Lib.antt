@@ -9,6 +9,7 @@ pub mod Lowest
 pub mod SortedLists
 pub mod OneList
 pub mod PlaceSets
+pub mod PlaceUnions
 pub mod PlaceWords
 pub mod PlaceFlips
 pub mod PlaceOrder

@@ -1,4 +1,4 @@
-ghost use Rattle.std.specs.Prelude.{◌≡◌, ◌<◌, ◌≤◌, ◌↔◌, IsTrue, IfOk, MatchOption, true, false};
+ghost use Rattle.std.specs.Prelude.{◌≡◌, ◌<◌, ◌≤◌, ◌↔◌, ◌||◌, ℕ, IsTrue, IfOk, MatchOption, true, false};
 ghost use Rattle.std.specs.Prelude.{length, replicate, slice_set};
 ghost use Rattle.std.proofs.Common.{rules};
 ghost use Rattle.std.specs.Cmp.{partial_order_from_own_ties};
@@ -12,7 +12,7 @@ use crate::limits::MAX_ENTRIES;
 use crate::no_memory::NoMemory;
 use crate::place_words::{
     are_within, are_within_either, are_zero, first_difference, first_place_from, flipped_words,
-    has_bit, with_bit, without_bit,
+    has_bit, unite_words, with_bit, without_bit,
 };
 use std::alloc::Global;
 use std::cmp::Ordering;
@@ -121,6 +121,15 @@ impl PlaceSet {
         ensures { self.new ≡ slice_set self.old p false }
     {
         self.words[p / 64] = without_bit(self.words[p / 64], p % 64);
+    }
+
+    /// Puts each place of another set of the same size into this one. It takes no memory.
+    pub fn unite(&mut self, other: &PlaceSet)
+        requires { length self.old ≡ length other.now }
+        ensures size { length self.new ≡ length self.old }
+        ensures united { (p : ℕ) → has self.new p ≡ (has self.old p || has other.now p) }
+    {
+        unite_words(self.words.as_mut_slice(), other.words.as_slice());
     }
 
     /// Whether each place of this set is in the other, of the same size.

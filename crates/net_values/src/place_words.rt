@@ -115,6 +115,18 @@ pub(crate) fn are_within_either(words: &[u64], firsts: &[u64], seconds: &[u64]) 
     true
 }
 
+/// Puts the bits of each other word into the word of its number.
+pub(crate) fn unite_words(words: &mut [u64], others: &[u64])
+    requires { length words.old ≡ length others.now }
+    ensures size { length words.new ≡ length words.old }
+    ensures united { (k : ℕ) → k < length words.old →
+        slice_index words.new k ≡ bit_or (slice_index words.old k) (slice_index others.now k) }
+{
+    for k in 0..words.len() {
+        words[k] |= others[k];
+    }
+}
+
 /// Whether the lowest place that is in one of two sets alone is in the first.
 pub(crate) fn first_difference(words: &[u64], others: &[u64]) -> Option<bool>
     ensures { MatchOption result

@@ -55,6 +55,15 @@ impl Vector {
         Ok(Vector { entries, support })
     }
 
+    /// The vector with these entries, each at most 2^127 - 1, and the set of the positions of the positive ones.
+    pub fn with_support(entries: Vec<u128>, support: PlaceSet) -> Vector
+        requires entries { IsVector entries.items }
+        requires support { support ≡ support_of entries.items }
+        ensures { result ≡ entries.items }
+    {
+        Vector { entries, support }
+    }
+
     /// An equal vector.
     pub fn copy(&self, alloc: Global) -> Result<Vector, NoMemory>
         ensures { IfOk result (λ vector. vector ≡ self.now) }

@@ -18,6 +18,7 @@ pub mod OneFailure
 pub mod Joins
 pub mod Adjacency
 pub mod AdjacentLists
+pub mod UnitedSupports
 pub mod Unions
 pub mod Moves
 pub mod Keeps

@@ -1,11 +1,12 @@
 -- The unit rows are a basis of the semiflows over no column: each nonzero vector has the unit row of one of
 -- its positive positions below it.
-use Rattle.std.proofs.Common.{◌≡◌, sym, ap, ◌∙◌, subst, ℕ, ◌<◌, List, [], length, get_or, set, replicate, slice_index, inl, inr, arith}
+use Rattle.std.proofs.Common.{◌≡◌, sym, ap, ◌∙◌, subst, ℕ, ◌<◌, List, [], length, get_or, set, replicate, slice_index, ◌*◌, ◌-◌, inl, inr, arith}
 use Rattle.std.specs.Int.{◌∣◌}
 use Rattle.std.proofs.lemmas.Bool.{cases_eq, cases_lt}
 use Rattle.std.proofs.lemmas.List.{get_or-set_same, get_or-set_other, get_or-replicate, get_or_past, get_or_default, length-set, length-replicate}
 use Rattle.std.proofs.Math.Nat.{eq-one_of_dvd-one}
-use Rattle.incidence.specs.Matrix.{Matrix}
+use Rattle.incidence.specs.Matrix.{Matrix, gain_sum, loss_sum, positive_at, negative_at}
+use Rattle.incidence.proofs.Below.{below_zero}
 use Rattle.semiflow_elim.specs.Bases.{IsBasis, AreUnits}
 
 zero_read : (n i : ℕ) → slice_index (replicate n 0) i ≡ 0
@@ -64,3 +65,23 @@ units_basis m K rows none h = record {
         λ i under positive. subst (λ (j : ℕ). 0 < y j) (sym (unit_only m.rows some.0 i (subst (λ (row : List ℕ). 0 < slice_index row i) is positive))) some.2,
       );
 }
+
+-- the unit row has no sums at a column where the matrix has 0 at its position
+none_left : (amount : ℕ → ℕ) (n k i : ℕ) → amount k ≡ 0 → slice_index (set (replicate n 0) k 1) i * amount i ≡ 0
+none_left amount n k i none =
+    elim (cases_eq i k) [
+      | inl same ↦
+          let zero : amount i ≡ 0 = ap amount same ∙ none in
+          ap (λ (z : ℕ). slice_index (set (replicate n 0) k 1) i * z) zero ∙ omega arith
+      | inr other ↦ ap (λ (z : ℕ). z * amount i) (unit_elsewhere n k i other) ∙ omega arith
+    ]
+
+pub unit_gains : (m : Matrix) (k j : ℕ) → m.gain k j ≡ 0 → gain_sum m j (slice_index (set (replicate m.rows 0) k 1)) ≡ 0
+unit_gains m k j none =
+    let zero : positive_at m k j ≡ 0 = omega arith in
+    below_zero m.rows (λ i. slice_index (set (replicate m.rows 0) k 1) i * positive_at m i j) (λ i under. none_left (λ p. positive_at m p j) m.rows k i zero)
+
+pub unit_losses : (m : Matrix) (k j : ℕ) → m.loss k j ≡ 0 → loss_sum m j (slice_index (set (replicate m.rows 0) k 1)) ≡ 0
+unit_losses m k j none =
+    let zero : negative_at m k j ≡ 0 = omega arith in
+    below_zero m.rows (λ i. slice_index (set (replicate m.rows 0) k 1) i * negative_at m i j) (λ i under. none_left (λ p. negative_at m p j) m.rows k i zero)

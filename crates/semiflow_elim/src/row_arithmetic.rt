@@ -1,9 +1,11 @@
 ghost use Rattle.std.specs.Prelude.{◌≡◌, ℕ, ◌+◌, ◌*◌, ◌/◌, ◌^◌, ◌<◌, ◌≤◌};
 ghost use Rattle.std.specs.Prelude.{OkIff, IfOk, IfErr, length, slice_index};
 ghost use Rattle.std.specs.Int.{IsGcd};
-ghost use Rattle.semiflow_elim.specs.Arithmetic.{IsScaledSum, IsGcdOfAll, HasWideEntry};
+ghost use Rattle.net_values.specs.Vectors.{IsVector};
+ghost use Rattle.semiflow_elim.specs.Arithmetic.{IsScaledSum, IsGcdOfAll, HasWideEntry, IsFilled, IsUnionOf};
 
 use incidence::{WideSum, add_product};
+use net_values::{NoMemory, PlaceSet, Vector};
 use std::alloc::Global;
 
 /// Why a combination of two rows can't be formed.
@@ -12,6 +14,9 @@ pub(crate) enum RowFault {
     NoMemory,
     Wide,
 }
+
+/// How many positions are filled at a time.
+const RUN: usize = 16;
 
 /// The greatest common divisor of two numbers, by Euclid's algorithm.
 pub(crate) fn gcd(a: u128, b: u128) -> u128
@@ -104,4 +109,70 @@ pub(crate) fn scaled_sum(
         }
     }
     Ok(sums)
+}
+
+/// The sum of the multiples of two rows, from the set of the positions at which one of them is positive and from
+/// numbers that their entries don't exceed.
+pub(crate) fn sum_of(
+    alloc: Global,
+    x: u128,
+    r: &Vector,
+    y: u128,
+    s: &Vector,
+    either: &PlaceSet,
+    largest: (u128, u128),
+) -> Result<Vec<u128>, RowFault>
+    requires alike { length r.now ≡ length s.now }
+    requires either { IsUnionOf r.now s.now either.now }
+    requires first { (i : ℕ) → slice_index r.now i ≤ largest.0 }
+    requires second { (i : ℕ) → slice_index s.now i ≤ largest.1 }
+    ensures ok { IfOk result (λ sums. IsScaledSum x r.now y s.now (length r.now) sums.items) }
+    ensures wide { IfErr result (λ fault. fault ≡ RowFault.Wide → HasWideEntry x r.now y s.now) }
+    ensures vector { IsVector r.now }
+{
+    if scaled_entry(x, largest.0, y, largest.1).is_err() {
+        return scaled_sum(alloc, x, r.as_slice(), y, s.as_slice());
+    }
+    match narrow_sum(alloc, x, r.as_slice(), y, s.as_slice(), either) {
+        Ok(sums) => Ok(sums),
+        Err(NoMemory) => Err(RowFault::NoMemory),
+    }
+}
+
+/// The sum of the multiples of two rows, no entry of which exceeds 2^127 - 1. Where both rows are 0 nothing is
+/// read.
+fn narrow_sum(
+    alloc: Global,
+    x: u128,
+    r: &[u128],
+    y: u128,
+    s: &[u128],
+    either: &PlaceSet,
+) -> Result<Vec<u128>, NoMemory>
+    requires alike { length r.now ≡ length s.now }
+    requires either { IsUnionOf r.now s.now either.now }
+    requires narrow { (i : ℕ) → x * slice_index r.now i + y * slice_index s.now i < 2 ^ 127 }
+    ensures { IfOk result (λ sums. IsScaledSum x r.now y s.now (length r.now) sums.items) }
+{
+    let mut sums = vec![in alloc; 0u128; r.len()]?;
+    let mut from = 0;
+    'runs: while let Some(first) = either.first_from(from) {
+        from = first + RUN.min(r.len() - first);
+        fill(sums.as_mut_slice(), x, r, y, s, first, from);
+    }
+    Ok(sums)
+}
+
+/// Puts in the sums of the multiples at the positions from one to another.
+fn fill(sums: &mut [u128], x: u128, r: &[u128], y: u128, s: &[u128], from: usize, to: usize)
+    requires alike { length r.now ≡ length s.now }
+    requires size { length sums.old ≡ length r.now }
+    requires order { from ≤ to }
+    requires within { to ≤ length r.now }
+    requires narrow { (i : ℕ) → x * slice_index r.now i + y * slice_index s.now i < 2 ^ 127 }
+    ensures { IsFilled x r.now y s.now from to sums.old sums.new }
+{
+    for i in from..to {
+        sums[i] = x * r[i] + y * s[i];
+    }
 }

@@ -10,7 +10,7 @@ ghost use Rattle.semiflow_elim.specs.Elimination.{Passes, FailsBy};
 ghost use Rattle.semiflow_elim.specs.Tableaus.{size_of};
 
 use crate::candidates::join_all;
-use crate::carried::{ColumnSums, carried_sums};
+use crate::carried::{ColumnSums, unit_sums};
 use crate::carried_rows::CarriedRows;
 use crate::choice::chosen_column;
 use crate::fault::ElimFault;
@@ -216,7 +216,7 @@ fn added_rows(
     }
 }
 
-/// The sums of each row at each column outside a set.
+/// The sums of each unit row at each column outside a set.
 fn all_sums(
     alloc: Global,
     matrix: &Incidence,
@@ -224,12 +224,13 @@ fn all_sums(
     rows: &[Vector],
 ) -> Result<Vec<List<ColumnSums>>, NoMemory>
     requires columns { length taken.now ≡ (matrix_of matrix.now).columns }
-    requires size { All (λ row. length row ≡ (matrix_of matrix.now).rows) rows.now }
+    requires units { AreUnits (matrix_of matrix.now).rows rows.now (matrix_of matrix.now).rows }
     ensures { IfOk result (λ sums. CarryTheirs (matrix_of matrix.now) (in_set taken.now) rows.now sums.items) }
 {
+    let turned = matrix.transpose(alloc)?;
     let mut sums = Vec::with_capacity(alloc, rows.len())?;
-    for row in rows {
-        sums.push(carried_sums(alloc, matrix, taken, row)?)?;
+    for i in 0..rows.len() {
+        sums.push(unit_sums(alloc, matrix, &turned, taken, i, &rows[i])?)?;
     }
     Ok(sums)
 }

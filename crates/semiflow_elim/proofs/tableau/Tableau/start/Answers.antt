@@ -23,3 +23,9 @@ invariant_of-result c =
       short = c.rows.ensures.limits.columns;
       few = omega arith;
     }
+
+pub all_sums-requires-clause-units : goal.all_sums-requires-clause-units
+all_sums-requires-clause-units c =
+    let m = matrix_of c.args.matrix.now in
+    let units : AreUnits m.rows c.in_ok-vectors.vectors.items m.rows = subst (λ (n : ℕ). AreUnits n c.in_ok-vectors.vectors.items n) c.rows.ensures.value c.in_ok-vectors.ensures in
+    subst (λ (l : List (List ℕ)). AreUnits m.rows l m.rows) (sym c.as_slice.ensures.value) units
