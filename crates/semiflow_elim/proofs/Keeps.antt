@@ -62,6 +62,16 @@ module _ (m : Matrix) (c : ℕ) (rows joined new : List (List ℕ)) (sums : List
         ]
       ]
 
+  two_apart : (a b : ℕ) → (a ≡ b → ⊥) → a < length (rows ++ joined) → b < length (rows ++ joined) → Stays sums a → Stays sums b → AreApart (row_of (rows ++ joined) a) (row_of (rows ++ joined) b)
+  two_apart a b other first_within second_within first second =
+      elim (cases_lt a b) [
+        | inl less ↦ rows_apart a b less second_within first second
+        | inr more ↦ elim (cases_lt b a) [
+          | inl less ↦ let apart = rows_apart b a less first_within second first in record { forth = apart.back; back = apart.forth }
+          | inr none ↦ absurd (other (omega arith))
+        ]
+      ]
+
   kept_below : (a : ℕ) (y : ℕ → ℕ) → a < length (rows ++ joined) → Stays sums a → IsWithin m (slice_index (row_of (rows ++ joined) a)) y → HasBelow m new y
   kept_below a y under stays within =
       let p = kept.places a under stays in
@@ -80,8 +90,8 @@ module _ (m : Matrix) (c : ℕ) (rows joined new : List (List ℕ)) (sums : List
       let s = kept.sources j under in
       subst (IsGood m K') (sym (get_or_default new j d [] under ∙ s.3)) (row_good s.0 s.1 s.2))
       (λ j k d before under.
-      let o = kept.ascending j k before under in
-      let both = rows_apart o.a o.b o.order o.within o.first_stays o.second_stays in
+      let o = kept.two j k before under in
+      let both = two_apart o.a o.b o.apart o.first_within o.second_within o.first_stays o.second_stays in
       subst (λ (row : List ℕ). AreApart row (get_or new k d)) (sym (get_or_default new j d [] (omega arith) ∙ o.first))
       (subst (AreApart (row_of (rows ++ joined) o.a)) (sym (get_or_default new k d [] under ∙ o.second)) both))
       record {

@@ -19,6 +19,7 @@ pub mod Joins
 pub mod Adjacency
 pub mod AdjacentLists
 pub mod UnitedSupports
+pub mod LoneEntries
 pub mod Unions
 pub mod Moves
 pub mod Keeps

@@ -1,13 +1,12 @@
--- Moving the rows that stay to the first places: each goes to the place after those before it, in exchange for the
--- row there, which goes to a place that was gone over.
-use Rattle.std.proofs.Common.{◌≡◌, refl, sym, ap, ◌∙◌, subst, ℕ, zero, suc, ◌+◌, ◌-◌, ◌<◌, ◌≤◌, ◌==◌, List, [], length, take, inl, inr, arith}
+-- Dropping the rows that don't stay, from the last one down: the last row, which takes the place of one that goes,
+-- was looked at before.
+use Rattle.std.proofs.Common.{◌≡◌, ◌≢◌, refl, sym, ap, ◌∙◌, subst, ℕ, ◌+◌, ◌-◌, ◌<◌, ◌≤◌, ◌==◌, List, [], length, inl, inr, arith}
 use Rattle.std.specs.Prelude.{count_by}
-use Rattle.std.specs.List.{SwappedAt}
-use Rattle.std.proofs.lemmas.Bool.{cases_lt, eq-eqb, cond-true}
-use Rattle.std.proofs.lemmas.List.{take_all, get_or-take, length-take-le}
+use Rattle.std.proofs.lemmas.Bool.{cases_eq, eq-eqb, cond-true}
+use Rattle.std.proofs.lemmas.List.{take_all, get_or_past}
 use Rattle.semiflow_elim.specs.Candidates.{sums_of}
 use Rattle.semiflow_elim.specs.Elimination.{row_of}
-use Rattle.semiflow_elim.specs.Kept.{Stays, InOrder, AreMoved, AreKept}
+use Rattle.semiflow_elim.specs.Kept.{Stays, IsDropped, AreTwo, AreSwept, AreKept}
 use Rattle.semiflow_elim.specs.Carried.{list_of}
 use Rattle.semiflow_elim.specs.declared.carried.ColumnSums.{ColumnSums}
 use Rattle.semiflow_elim.specs.declared.signs.RowSums.{RowSums}
@@ -16,176 +15,163 @@ use Rattle.semiflow_elim.proofs.Offers.{count_more}
 abbrev zeros_of : List RowSums → ℕ
 zeros_of sums = count_by (λ own. own.gain == own.loss) sums
 
-pub moved_none : (sums : List RowSums) (old : List (List ℕ)) (carried : List (List ColumnSums)) → AreMoved sums old carried old carried 0 0
-moved_none sums old carried = record {
-  size = refl;
-  carried_size = refl;
-  carried_left = λ k past. refl;
-  few = omega arith;
-  left = λ k past. refl;
-  sources = λ j under. absurd (omega arith);
-  places = λ a under. absurd (omega arith);
-  ascending = λ j k before under. absurd (omega arith);
-  count = omega arith;
+past_stays : (sums : List RowSums) (a : ℕ) → length sums ≤ a → Stays sums a
+past_stays sums a past =
+    let none = get_or_past sums a record { gain = 0; loss = 0; largest = 0 } past in
+    ap (λ (own : RowSums). own.gain) none ∙ sym (ap (λ (own : RowSums). own.loss) none)
+
+-- rows past the end of the sums stay
+pub swept_none : (sums : List RowSums) (old : List (List ℕ)) (carried : List (List ColumnSums)) → length carried ≡ length old → length sums ≤ length old → AreSwept sums old carried old carried (length sums)
+swept_none sums old carried both few = record {
+  within = few;
+  carried_size = both;
+  left = λ k under. refl;
+  carried_left = λ k under. refl;
+  below = few;
+  sources = λ j past under. (j, past, under, past_stays sums j past, refl, refl);
+  places = λ a past under stays. (a, past, under, refl);
+  two = λ j k past before under. record {
+    a = j;
+    b = k;
+    apart = λ same. omega (arith, same);
+    first_within = omega arith;
+    second_within = under;
+    first_stays = past_stays sums j past;
+    second_stays = past_stays sums k (omega arith);
+    first = refl;
+    second = refl;
+  };
+  count = let whole = ap zeros_of (take_all (length sums) sums (omega arith)) in omega arith;
 }
 
-count_front : (sums : List RowSums) (n k : ℕ) → n + k ≡ length sums → zeros_of (take n sums) ≤ zeros_of sums
-count_front sums n zero all = let whole = ap zeros_of (take_all n sums (omega arith)) in omega arith
-count_front sums n (suc k) all =
-    let more = count_more (λ own. own.gain == own.loss) sums n (omega arith) in
-    let rest = count_front sums (n + 1) k (omega arith) in
-    omega arith
+module _ (sums : List RowSums) (old : List (List ℕ)) (old_carried : List (List ColumnSums)) (now : List (List ℕ)) (carried : List (List ColumnSums)) (i : ℕ) (under_sums : i < length sums) (h : AreSwept sums old old_carried now carried (i + 1)) where
+  -- row i stays
+  pub swept_stay : Stays sums i → AreSwept sums old old_carried now carried i
+  swept_stay stays =
+      let within = h.within in
+      let below = h.below in
+      record {
+        within = omega arith;
+        carried_size = h.carried_size;
+        left = λ k under. h.left k (omega arith);
+        carried_left = λ k under. h.carried_left k (omega arith);
+        below = omega arith;
+        sources = λ j past under. elim (cases_eq j i) [
+          | inl same ↦ (i, omega arith, omega arith, stays, ap (row_of now) same ∙ h.left i (omega arith), ap (list_of carried) same ∙ h.carried_left i (omega arith))
+          | inr other ↦ let s = h.sources j (omega arith) under in (s.0, omega (arith, s.1), s.2, s.3, s.4, s.5)
+        ];
+        places = λ a past under is. elim (cases_eq a i) [
+          | inl same ↦ (i, omega arith, omega arith, h.left i (omega arith) ∙ ap (row_of old) (sym same))
+          | inr other ↦ let p = h.places a (omega arith) under is in (p.0, omega (arith, p.1), p.2, p.3)
+        ];
+        two = λ j k past before under. elim (cases_eq j i) [
+          | inl same ↦
+              let s = h.sources k (omega arith) under in
+              record {
+                a = i;
+                b = s.0;
+                apart = λ equal. omega (arith, s.1, equal);
+                first_within = omega arith;
+                second_within = s.2;
+                first_stays = stays;
+                second_stays = s.3;
+                first = ap (row_of now) same ∙ h.left i (omega arith);
+                second = s.4;
+              }
+          | inr other ↦ h.two j k (omega arith) before under
+        ];
+        count =
+            let count = h.count in
+            let more = count_more (λ own. own.gain == own.loss) sums i under_sums in
+            let one = cond-true {A = ℕ} ((sums_of sums i).gain == (sums_of sums i).loss) 1 0 (eq-eqb (sums_of sums i).gain (sums_of sums i).loss stays) in
+            omega arith;
+      }
 
--- in the end the count is of all sums
-take_most : (sums : List RowSums) (n : ℕ) → zeros_of (take n sums) ≤ zeros_of sums
-take_most sums n = elim (cases_lt n (length sums)) [
-  | inl under ↦ count_front sums n (length sums - n) (omega arith)
-  | inr past ↦ let whole = ap zeros_of (take_all n sums past) in omega arith
-]
+  module _ (new : List (List ℕ)) (new_carried : List (List ColumnSums)) (row : IsDropped now new i) (list : IsDropped carried new_carried i) (goes : Stays sums i → ⊥) where
+    abbrev last : ℕ
+    last = length now - 1
 
-count_whole : (sums : List RowSums) (old : List (List ℕ)) (kept n : ℕ) → n ≡ kept → kept ≤ zeros_of (take (length old) sums) + (length old - length sums) → n ≤ zeros_of sums + (length old - length sums)
-count_whole sums old kept n same count = let most = take_most sums (length old) in omega arith
+    same_row : (k : ℕ) → k ≢ i → k + 1 < length now → row_of new k ≡ row_of now k
+    same_row k other under = row.others k [] other under
 
--- the count of the rows that stay, one row on
-count_stays : (sums : List RowSums) (i : ℕ) → Stays sums i → zeros_of (take i sums) + (i - length sums) + 1 ≤ zeros_of (take (i + 1) sums) + (i + 1 - length sums)
-count_stays sums i stays =
-    elim (cases_lt i (length sums)) [
-      | inl under ↦
-          let more = count_more (λ own. own.gain == own.loss) sums i under in
-          let one = cond-true {A = ℕ} ((sums_of sums i).gain == (sums_of sums i).loss) 1 0 (eq-eqb (sums_of sums i).gain (sums_of sums i).loss stays) in
-          omega arith
-      | inr past ↦
-          let now = ap zeros_of (take_all i sums past) in
-          let next = ap zeros_of (take_all (i + 1) sums (omega arith)) in
-          omega arith
-    ]
+    same_list : (k : ℕ) → k ≢ i → k + 1 < length now → list_of new_carried k ≡ list_of carried k
+    same_list k other under = let size = h.carried_size in list.others k [] other (omega arith)
 
-count_passes : (sums : List RowSums) (i : ℕ) → zeros_of (take i sums) + (i - length sums) ≤ zeros_of (take (i + 1) sums) + (i + 1 - length sums)
-count_passes sums i =
-    elim (cases_lt i (length sums)) [
-      | inl under ↦ let more = count_more (λ own. own.gain == own.loss) sums i under in omega arith
-      | inr past ↦
-          let now = ap zeros_of (take_all i sums past) in
-          let next = ap zeros_of (take_all (i + 1) sums (omega arith)) in
-          omega arith
-    ]
+    moved_row : i + 1 < length now → row_of new i ≡ row_of now last
+    moved_row under = row.here [] under
 
-module _ (sums : List RowSums) (old : List (List ℕ)) (old_carried : List (List ColumnSums)) (now : List (List ℕ)) (carried : List (List ColumnSums)) (i kept : ℕ) (h : AreMoved sums old old_carried now carried i kept) where
-  in_order_on : (row later : List ℕ) → InOrder sums old i row later → InOrder sums old (i + 1) row later
-  in_order_on row later o = record {
-    a = o.a;
-    b = o.b;
-    order = o.order;
-    within = let within = o.within in omega arith;
-    first_stays = o.first_stays;
-    second_stays = o.second_stays;
-    first = o.first;
-    second = o.second;
-  }
+    moved_list : i + 1 < length now → list_of new_carried i ≡ list_of carried last
+    moved_list under =
+        let size = h.carried_size in
+        let end : length carried - 1 ≡ last = omega arith in
+        list.here [] (omega arith) ∙ ap (list_of carried) end
 
-  -- a row that doesn't stay is passed over
-  pub moved_pass : (Stays sums i → ⊥) → AreMoved sums old old_carried now carried (i + 1) kept
-  moved_pass goes = record {
-    size = h.size;
-    carried_size = h.carried_size;
-    carried_left = λ k past. h.carried_left k (omega arith);
-    few = let few = h.few in omega arith;
-    left = λ k past. h.left k (omega arith);
-    sources = λ j under. let s = h.sources j under in (s.0, omega (arith, s.1), s.2, s.3, s.4);
-    places = λ a under stays. elim (cases_lt a i) [
-      | inl before ↦ h.places a before stays
-      | inr above ↦ let same : a ≡ i = omega arith in absurd (goes (subst (Stays sums) same stays))
-    ];
-    ascending = λ j k before under. in_order_on (row_of now j) (row_of now k) (h.ascending j k before under);
-    count = let count = h.count in let on = count_passes sums i in omega arith;
-  }
+    turned : (first second : List ℕ) → AreTwo sums old first second → AreTwo sums old second first
+    turned first second t = record {
+      a = t.b;
+      b = t.a;
+      apart = λ same. t.apart (sym same);
+      first_within = t.second_within;
+      second_within = t.first_within;
+      first_stays = t.second_stays;
+      second_stays = t.first_stays;
+      first = t.second;
+      second = t.first;
+    }
 
-  module _ (new : List (List ℕ)) (new_carried : List (List ColumnSums)) (swapped : SwappedAt now new kept i) (carried_swapped : SwappedAt carried new_carried kept i) (size : length new ≡ length now) (carried_size : length new_carried ≡ length carried) (stays : Stays sums i) where
-    at_place : row_of new kept ≡ row_of old i
-    at_place = swapped.0 [] ∙ h.left i (omega arith)
-
-    before_place : (j : ℕ) → j < kept → row_of new j ≡ row_of now j
-    before_place j under = let few = h.few in swapped.2 j [] (λ same. omega (arith, same)) (λ same. omega (arith, same))
-
-    list_at_place : list_of new_carried kept ≡ list_of old_carried i
-    list_at_place = carried_swapped.0 [] ∙ h.carried_left i (omega arith)
-
-    list_before : (j : ℕ) → j < kept → list_of new_carried j ≡ list_of carried j
-    list_before j under = let few = h.few in carried_swapped.2 j [] (λ same. omega (arith, same)) (λ same. omega (arith, same))
-
-    -- a row that stays is moved
-    pub moved_stay : AreMoved sums old old_carried new new_carried (i + 1) (kept + 1)
-    moved_stay =
-        let few = h.few in
+    -- row i goes
+    pub swept_drop : AreSwept sums old old_carried new new_carried i
+    swept_drop =
+        let within = h.within in
+        let below = h.below in
+        let size = row.size in
+        let list_size = list.size in
+        let both = h.carried_size in
         record {
-          size = size ∙ h.size;
-          carried_size = carried_size ∙ h.carried_size;
-          carried_left = λ k past. carried_swapped.2 k [] (λ same. omega (arith, same)) (λ same. omega (arith, same)) ∙ h.carried_left k (omega arith);
-          few = omega arith;
-          left = λ k past. swapped.2 k [] (λ same. omega (arith, same)) (λ same. omega (arith, same)) ∙ h.left k (omega arith);
-          sources = λ j under. elim (cases_lt j kept) [
-            | inl before ↦ let s = h.sources j before in (s.0, omega (arith, s.1), s.2, before_place j before ∙ s.3, list_before j before ∙ s.4)
-            | inr above ↦ let same : j ≡ kept = omega arith in (i, omega arith, stays, ap (row_of new) same ∙ at_place, ap (list_of new_carried) same ∙ list_at_place)
+          within = omega arith;
+          carried_size = omega arith;
+          left = λ k under. same_row k (λ same. omega (arith, same)) (omega arith) ∙ h.left k (omega arith);
+          carried_left = λ k under. same_list k (λ same. omega (arith, same)) (omega arith) ∙ h.carried_left k (omega arith);
+          below = omega arith;
+          sources = λ j past under. elim (cases_eq j i) [
+            | inl same ↦
+                let s = h.sources last (omega arith) (omega arith) in
+                (s.0, omega (arith, s.1), s.2, s.3, ap (row_of new) same ∙ moved_row (omega arith) ∙ s.4, ap (list_of new_carried) same ∙ moved_list (omega arith) ∙ s.5)
+            | inr other ↦
+                let s = h.sources j (omega arith) (omega arith) in
+                (s.0, omega (arith, s.1), s.2, s.3, same_row j other (omega arith) ∙ s.4, same_list j other (omega arith) ∙ s.5)
           ];
-          places = λ a under is. elim (cases_lt a i) [
-            | inl before ↦ let p = h.places a before is in (p.0, omega (arith, p.1), before_place p.0 p.1 ∙ p.2)
-            | inr above ↦ let same : i ≡ a = omega arith in (kept, omega arith, at_place ∙ ap (row_of old) same)
+          places = λ a past under is. elim (cases_eq a i) [
+            | inl same ↦ absurd (goes (subst (Stays sums) same is))
+            | inr other ↦
+                let p = h.places a (omega arith) under is in
+                elim (cases_eq p.0 last) [
+                  | inl end ↦ (i, omega arith, omega (arith, p.1, p.2, end), moved_row (omega (arith, p.1, p.2)) ∙ ap (row_of now) (sym end) ∙ p.3)
+                  | inr inner ↦ (p.0, omega (arith, p.1), omega (arith, p.2, inner), same_row p.0 (λ same. omega (arith, p.1, same)) (omega (arith, p.2, inner)) ∙ p.3)
+                ]
           ];
-          ascending = λ j k before under. elim (cases_lt k kept) [
-            | inl inside ↦
-                let o = h.ascending j k before inside in
-                record {
-                  a = o.a;
-                  b = o.b;
-                  order = o.order;
-                  within = let within = o.within in omega arith;
-                  first_stays = o.first_stays;
-                  second_stays = o.second_stays;
-                  first = before_place j (omega arith) ∙ o.first;
-                  second = before_place k inside ∙ o.second;
-                }
-            | inr above ↦
-                let same : k ≡ kept = omega arith in
-                let s = h.sources j (omega arith) in
-                record {
-                  a = s.0;
-                  b = i;
-                  order = s.1;
-                  within = omega arith;
-                  first_stays = s.2;
-                  second_stays = stays;
-                  first = before_place j (omega arith) ∙ s.3;
-                  second = ap (row_of new) same ∙ at_place;
-                }
+          two = λ j k past before under. elim (cases_eq j i) [
+            | inl same ↦
+                subst (λ (r : List ℕ). AreTwo sums old r (row_of new k)) (sym (ap (row_of new) same ∙ moved_row (omega arith)))
+                (subst (AreTwo sums old (row_of now last)) (sym (same_row k (λ equal. omega (arith, same, equal)) (omega arith)))
+                (turned (row_of now k) (row_of now last) (h.two k last (omega arith) (omega arith) (omega arith))))
+            | inr other ↦
+                subst (λ (r : List ℕ). AreTwo sums old r (row_of new k)) (sym (same_row j other (omega arith)))
+                (subst (AreTwo sums old (row_of now j)) (sym (same_row k (λ equal. omega (arith, equal)) (omega arith)))
+                (h.two j k (omega arith) before (omega arith)))
           ];
-          count = let count = h.count in let on = count_stays sums i stays in omega arith;
+          count =
+              let count = h.count in
+              let more = count_more (λ own. own.gain == own.loss) sums i under_sums in
+              omega arith;
         }
 
--- the first places, in the end
-pub kept_whole : (sums : List RowSums) (old : List (List ℕ)) (old_carried : List (List ColumnSums)) (now : List (List ℕ)) (carried : List (List ColumnSums)) (kept : ℕ) → length old_carried ≡ length old → AreMoved sums old old_carried now carried (length old) kept → AreKept sums old old_carried (take kept now) (take kept carried)
-kept_whole sums old old_carried now carried kept both h =
-    let few = h.few in
-    let all = h.size in
-    let size : length (take kept now) ≡ kept = length-take-le kept now (omega arith) in
-    let carried_all = h.carried_size in
-    let carried_size : length (take kept carried) ≡ kept = length-take-le kept carried (omega arith) in
-    let read : (j : ℕ) → j < kept → row_of (take kept now) j ≡ row_of now j = λ j under. get_or-take kept now j [] under in
-    let list_read : (j : ℕ) → j < kept → list_of (take kept carried) j ≡ list_of carried j = λ j under. get_or-take kept carried j [] under in
-    record {
-      carried_size = carried_size ∙ sym size;
-      sources = λ j under. let s = h.sources j (omega arith) in (s.0, s.1, s.2, read j (omega arith) ∙ s.3, list_read j (omega arith) ∙ s.4);
-      places = λ a under stays. let p = h.places a under stays in (p.0, omega (arith, p.1), read p.0 p.1 ∙ p.2);
-      ascending = λ j k before under.
-          let o = h.ascending j k before (omega arith) in
-          record {
-            a = o.a;
-            b = o.b;
-            order = o.order;
-            within = o.within;
-            first_stays = o.first_stays;
-            second_stays = o.second_stays;
-            first = read j (omega arith) ∙ o.first;
-            second = read k (omega arith) ∙ o.second;
-          };
-      count = count_whole sums old kept (length (take kept now)) size h.count;
-    }
+-- in the end all rows were looked at
+pub swept_whole : (sums : List RowSums) (old : List (List ℕ)) (old_carried : List (List ColumnSums)) (now : List (List ℕ)) (carried : List (List ColumnSums)) → AreSwept sums old old_carried now carried 0 → AreKept sums old old_carried now carried
+swept_whole sums old old_carried now carried h = record {
+  carried_size = h.carried_size;
+  sources = λ j under. let s = h.sources j (omega arith) under in (s.0, s.2, s.3, s.4, s.5);
+  places = λ a under stays. let p = h.places a (omega arith) under stays in (p.0, p.2, p.3);
+  two = λ j k before under. h.two j k (omega arith) before under;
+  count = let count = h.count in omega arith;
+}

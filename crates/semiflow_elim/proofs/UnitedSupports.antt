@@ -4,13 +4,13 @@ use Rattle.std.proofs.Common.{◌≡◌, sym, ap, ◌∙◌, ℕ, zero, suc, ◌
 use Rattle.std.specs.Int.{◌∣◌}
 use Rattle.std.proofs.Math.Nat.{zero-div}
 use Rattle.std.proofs.lemmas.Bool.{cases_lt, lt-ltb, le-ltb, true≢false}
-use Rattle.std.proofs.lemmas.List.{same_lists, get_or-map, get_or_default}
+use Rattle.std.proofs.lemmas.List.{same_lists, get_or_default}
 use Rattle.net_values.specs.Vectors.{support_of}
 use Rattle.net_values.proofs.Supports.{support_size, support_has}
 use Rattle.net_values.specs.PlaceSets.{has}
 use Rattle.semiflow_elim.specs.Arithmetic.{IsUnionOf}
 use Rattle.semiflow_elim.specs.Candidates.{IsCombined}
-use Rattle.semiflow_elim.proofs.Pairs.{quotient_positive, divisor_positive}
+use Rattle.semiflow_elim.proofs.Pairs.{quotient_positive}
 
 sum_positive : (x r y s : ℕ) → 0 < x → 0 < y → 0 < r + s → 0 < x * r + y * s
 sum_positive zero r y s first second some = absurd (omega arith)

@@ -1,4 +1,5 @@
-ghost use Rattle.std.specs.Prelude.{◌≡◌, [], ◌∷◌, ◌++◌, OnOk, OnErr};
+ghost use Rattle.std.specs.Prelude.{◌≡◌, [], ◌∷◌, ◌++◌, ◌<◌, OnOk, OnErr, length};
+ghost use Rattle.semiflow_elim.specs.Kept.{IsDropped};
 
 use crate::carried::ColumnSums;
 use net_values::{List, NoMemory, Vector};
@@ -51,5 +52,16 @@ impl CarriedRows {
             return Err(NoMemory);
         }
         Ok(())
+    }
+
+    /// Drops row `i`. The last row takes its place.
+    pub fn drop_row(&mut self, i: usize)
+        requires vectors { i < length self.old.vectors.items }
+        requires sums { i < length self.old.sums.items }
+        ensures vectors { IsDropped self.old.vectors.items self.new.vectors.items i }
+        ensures sums { IsDropped self.old.sums.items self.new.sums.items i }
+    {
+        let _vector = self.vectors.swap_remove(i);
+        let _sums = self.sums.swap_remove(i);
     }
 }

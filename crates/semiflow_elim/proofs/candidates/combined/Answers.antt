@@ -1,4 +1,4 @@
-use Rattle.std.proofs.Common.{sym, ap, refl, ◌∙◌, subst, ℕ, ◌/◌, ◌<◌, List, length, slice_index, rules}
+use Rattle.std.proofs.Common.{sym, ap, refl, ◌∙◌, subst, ℕ, ◌/◌, List, length, rules}
 use Rattle.net_values.specs.Vectors.{IsVector, support_of}
 use Rattle.semiflow_elim.specs.Arithmetic.{IsGcdOfAll}
 use Rattle.semiflow_elim.specs.Merged.{IsCombinedBy}

@@ -1,23 +1,46 @@
-use Rattle.std.proofs.Common.{◌≡◌, ◌∙◌, ℕ, List, sym, ap, subst, take, length, rules}
-use Rattle.semiflow_elim.specs.Kept.{AreMoved, AreKept}
-use Rattle.semiflow_elim.specs.declared.carried.ColumnSums.{ColumnSums}
-use Rattle.semiflow_elim.proofs.Moves.{kept_whole}
-use Rattle.semiflow_elim.proofs.Pairs.{taken}
+use Rattle.std.proofs.Common.{◌≡◌, subst, ◌+◌, ◌-◌, ◌<◌, arith}
+use Rattle.semiflow_elim.specs.Kept.{AreSwept}
+use Rattle.semiflow_elim.proofs.Moves.{swept_none, swept_stay, swept_drop, swept_whole}
 use Rattle.semiflow_elim.proofs.kept.keep_zeros.Goals as goal
+
+pub loop-left-init : goal.loop-left-init
+loop-left-init c = record {
+  few = omega arith;
+  swept = swept_none c.args.sums.now c.args.rows.now.vectors.items c.args.rows.now.sums.items c.requires.carried c.requires.few;
+}
+
+pub loop-left-preserved-then-sums-left : goal.loop-left-preserved-then-sums-left
+loop-left-preserved-then-sums-left c =
+    let sums = c.args.sums.now in
+    let old = c.args.rows.now in
+    let now = c.loop-left.rows in
+    let new = c.drop_row.new.self in
+    let few = c.loop-left.invariant.few in
+    let some : 0 < c.loop-left.left = c.loop-left-test.true in
+    let next : c.loop-left.left ≡ c.loop-left.left - 1 + 1 = omega arith in
+    let swept = subst (AreSwept sums old.vectors.items old.sums.items now.vectors.items now.sums.items) next c.loop-left.invariant.swept in
+    record {
+      few = omega arith;
+      swept = swept_drop sums old.vectors.items old.sums.items now.vectors.items now.sums.items (c.loop-left.left - 1) (omega arith) swept new.vectors.items new.sums.items c.drop_row.ensures.vectors c.drop_row.ensures.sums c.if-sums-left.true;
+    }
+
+pub loop-left-preserved : goal.loop-left-preserved
+loop-left-preserved c =
+    let sums = c.args.sums.now in
+    let old = c.args.rows.now in
+    let now = c.loop-left.rows in
+    let few = c.loop-left.invariant.few in
+    let some : 0 < c.loop-left.left = c.loop-left-test.true in
+    let next : c.loop-left.left ≡ c.loop-left.left - 1 + 1 = omega arith in
+    let swept = subst (AreSwept sums old.vectors.items old.sums.items now.vectors.items now.sums.items) next c.loop-left.invariant.swept in
+    record {
+      few = omega arith;
+      swept = swept_stay sums old.vectors.items old.sums.items now.vectors.items now.sums.items (c.loop-left.left - 1) (omega arith) swept c.if-sums-left.false;
+    }
 
 pub returns : goal.returns
 returns c =
-    let sums = c.args.sums.now in
-    let rows = c.args.rows.now in
-    let now = c.move_zeros-kept.new.rows in
-    let carried = c.move_zeros-kept.new.carried in
-    let kept = c.move_zeros-kept.result in
-    let moved : AreMoved sums rows.vectors.items rows.sums.items now carried (length rows.vectors.items) kept =
-    subst (λ (old : List (List ColumnSums)). AreMoved sums rows.vectors.items old now carried (length rows.vectors.items) kept) c.as_mut_slice-2.ensures.value
-    (subst (λ (old : List (List ℕ)). AreMoved sums old c.as_mut_slice-2.result.now now carried (length old) kept) c.as_mut_slice.ensures.value c.move_zeros-kept.ensures)
-    in
-    let vectors_are : c.truncate.new.self.items ≡ take kept now = c.truncate.ensures.items ∙ ap (take kept) (taken now rows.vectors.items rows.vectors.len (search rules)) in
-    let sums_are : c.truncate-2.new.self.items ≡ take kept carried = c.truncate-2.ensures.items ∙ ap (take kept) (taken carried rows.sums.items rows.sums.len (search rules)) in
-    subst (AreKept sums rows.vectors.items rows.sums.items c.truncate.new.self.items) (sym sums_are)
-    (subst (λ (l : List (List ℕ)). AreKept sums rows.vectors.items rows.sums.items l (take kept carried)) (sym vectors_are)
-    (kept_whole sums rows.vectors.items rows.sums.items now carried kept c.requires moved))
+    let none : c.loop-left.left ≡ 0 = let end = c.loop-left-test.false in omega arith in
+    let now = c.loop-left.rows in
+    swept_whole c.args.sums.now c.args.rows.now.vectors.items c.args.rows.now.sums.items now.vectors.items now.sums.items
+    (subst (AreSwept c.args.sums.now c.args.rows.now.vectors.items c.args.rows.now.sums.items now.vectors.items now.sums.items) none c.loop-left.invariant.swept)

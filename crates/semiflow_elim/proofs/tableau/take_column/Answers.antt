@@ -1,4 +1,4 @@
-use Rattle.std.proofs.Common.{◌≡◌, ◌++◌, ◌<◌, ℕ, List, true, length, set, subst, rules, arith}
+use Rattle.std.proofs.Common.{◌≡◌, ◌++◌, ◌<◌, ◌≤◌, ◌∙◌, ap, ℕ, List, true, length, length-append, set, subst, rules, arith}
 use Rattle.incidence.specs.Tables.{matrix_of}
 use Rattle.semiflow_elim.specs.Bases.{in_set}
 use Rattle.semiflow_elim.specs.Kept.{AreKept}
@@ -15,6 +15,9 @@ kept_of sums read rows carried appended appended_carried new new_carried read_is
     subst (λ (l : List (List ColumnSums)). AreKept sums rows l new new_carried) carried_are
     (subst (λ (l : List (List ℕ)). AreKept sums l appended_carried new new_carried) rows_are
     (subst (λ (s : List RowSums). AreKept s appended appended_carried new new_carried) read_is h))
+
+a_size : (appended rows joined : List (List ℕ)) → appended ≡ rows ++ joined → length rows ≤ length appended
+a_size appended rows joined is = let size = ap length is ∙ length-append rows joined in omega arith
 
 pub returns-clause-basis : goal.returns-clause-basis
 returns-clause-basis c =
@@ -59,3 +62,13 @@ returns-clause-carried c =
     let sums : c.append.new.self.sums.items ≡ rows.sums.items ++ a.joined.sums.items = search rules in
     let kept = kept_of a.sums.items c.as_slice.result.now (rows.vectors.items ++ a.joined.vectors.items) (rows.sums.items ++ a.joined.sums.items) c.append.new.self.vectors.items c.append.new.self.sums.items new.vectors.items new.sums.items c.as_slice.ensures.value vectors sums c.keep_zeros.ensures in
     kept_carried m K (in_set (set c.args.taken.now a.column true)) (set_extends c.args.taken.now a.column under).old rows.vectors.items a.joined.vectors.items rows.sums.items a.joined.sums.items c.requires.carried c.in_ok-added.ensures.carried a.sums.items new.vectors.items new.sums.items kept
+
+pub keep_zeros-requires-clause-few : goal.keep_zeros-requires-clause-few
+keep_zeros-requires-clause-few c =
+    let a = c.in_ok-added.added in
+    let rows = c.args.rows.now in
+    let vectors : c.append.new.self.vectors.items ≡ rows.vectors.items ++ a.joined.vectors.items = search rules in
+    let size = a_size c.append.new.self.vectors.items rows.vectors.items a.joined.vectors.items vectors in
+    let read = ap length c.as_slice.ensures.value in
+    let all = c.in_ok-added.ensures.added.sums_are.size in
+    omega arith
