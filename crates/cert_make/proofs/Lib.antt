@@ -4,8 +4,7 @@ pub mod Counts
 pub mod FlowLists
 pub mod ClaimLists
 pub mod BoundParts
-pub mod Parting
 pub mod TreeMaking
-pub mod NextPlaces
+pub mod GrowingTrees
 pub mod PlaceTrees
 pub mod WideChecks

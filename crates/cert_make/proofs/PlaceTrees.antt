@@ -93,4 +93,4 @@ has_certificate net limit meets =
       contains = λ q past. refl;
       avoids = λ q past. refl;
     } in
-    (Commoner tree.0, tt, tree_formed net tree.0 tree.1, tree_accepted net tree.0 tree.1)
+    (Commoner tree.0, tt, tree_formed net tree.0 (tree.1 []), tree_accepted net tree.0 (tree.1 []))

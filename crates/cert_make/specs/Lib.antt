@@ -5,5 +5,4 @@ pub mod Laws
 -- Parts of a certificate while it is made. Only clauses of private functions and lemmas cite these.
 pub mod PlaceLists
 pub mod Making
-pub mod Classes
 pub mod Trees

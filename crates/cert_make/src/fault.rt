@@ -19,20 +19,3 @@ impl From<NoMemory> for BoundCertFault {
         BoundCertFault::NoMemory
     }
 }
-
-/// Why a tree isn't whole: out of memory, or one grown siphon more than the limit was met.
-#[derive(Clone, Copy)]
-pub(crate) enum Stop {
-    NoMemory,
-    SetLimit,
-}
-
-impl From<NoMemory> for Stop {
-    ghost use Rattle.cert_make.specs.declared.fault.Stop.{Stop};
-
-    ghost from_gives = { λ _ stop. stop ≡ Stop.NoMemory };
-
-    fn from(_error: NoMemory) -> Stop {
-        Stop::NoMemory
-    }
-}

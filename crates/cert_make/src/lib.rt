@@ -4,14 +4,13 @@
 
 mod bad_siphon;
 mod bound_lines;
-mod class;
 mod commoner;
 mod fault;
 mod flows;
 mod laws;
-mod next_place;
 #[cfg(test)]
 mod tests;
+mod tree;
 
 pub use bad_siphon::bad_siphon_certificate;
 pub use bound_lines::bound_certificate;

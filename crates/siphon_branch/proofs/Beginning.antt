@@ -6,8 +6,10 @@ use Rattle.net_values.specs.Net.{Net}
 use Rattle.siphon_branch.specs.declared.branch.Branch.{Branch}
 use Rattle.siphon_branch.specs.declared.live_class.LiveClass.{LiveClass}
 use Rattle.siphon_branch.specs.Classes.{AreDisjoint}
-use Rattle.siphon_branch.specs.Held.{branch_of, branches_of, IsHeld, IsUnderway, KeepsLive}
+use Rattle.siphon_branch.specs.LiveClasses.{branch_of, branches_of, IsHeld}
+use Rattle.siphon_branch.specs.Held.{IsUnderway, KeepsLive}
 use Rattle.siphon_branch.proofs.Divisions.{AreLiveOnes, ones_none, ones_dead, ones_live, ones_divided}
+use Rattle.siphon_branch.proofs.HeldClasses.{dead_grown}
 use Rattle.siphon_branch.proofs.Lists.{contains_none}
 
 -- the first classes were looked at
@@ -41,7 +43,7 @@ module _ (net : Net) (branches : List Branch) (i : ℕ) (class : Branch) (old ne
         | inl none ↦
             subst (λ (xs : List LiveClass). IsBeginning net branches (i + 1) xs) (sym none.0) record {
               live = beginning.live;
-              ones = subst (λ (xs : List Branch). AreLiveOnes net xs (branches_of old)) (sym more) (ones_dead net (take i branches) (branches_of old) class none.1 beginning.ones);
+              ones = subst (λ (xs : List Branch). AreLiveOnes net xs (branches_of old)) (sym more) (ones_dead net (take i branches) (branches_of old) class (dead_grown net class none.1) beginning.ones);
             }
         | inr some ↦
             let same : branches_of (old ++ some.0 ∷ []) ≡ branches_of old ++ class ∷ [] = map-append branch_of old (some.0 ∷ []) ∙ ap (λ (c : Branch). branches_of old ++ c ∷ []) some.2.same in

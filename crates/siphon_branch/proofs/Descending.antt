@@ -7,7 +7,8 @@ use Rattle.net_values.specs.PlaceSets.{has}
 use Rattle.closed_sets.specs.Passes.{members}
 use Rattle.siphon_branch.specs.declared.branch.Branch.{Branch}
 use Rattle.siphon_branch.specs.declared.live_class.LiveClass.{LiveClass}
-use Rattle.siphon_branch.specs.Held.{branch_of, branches_of, Descends, IsHeld, IsNextPlace, IsWhole, KeepsLive, part_containing, part_without}
+use Rattle.siphon_branch.specs.LiveClasses.{branch_of, branches_of, IsHeld, IsNextPlace, IsWhole, part_containing, part_without}
+use Rattle.siphon_branch.specs.Held.{Descends, KeepsLive}
 use Rattle.siphon_branch.specs.Searches.{IsDivided}
 use Rattle.siphon_branch.proofs.Divisions.{divided_leaf}
 use Rattle.siphon_branch.proofs.HeldClasses.{held_only, step_divided, free_place, in_contains}

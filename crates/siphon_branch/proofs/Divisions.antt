@@ -84,6 +84,31 @@ pub record Splits (net : Net) (xs ys : List Branch) : Type 0 where
   pub disjoint : AllPairs AreDisjoint ys
   pub within : (other y : Branch) → Contains ys y → ((x : Branch) → Contains xs x → AreDisjoint other x) → AreDisjoint other y
 
+some_turned : (P : Branch → List Bool → Type 0) (one other : Branch) (set : List Bool) → InSome P (one ∷ other ∷ []) set → InSome P (other ∷ one ∷ []) set
+some_turned P one other set some =
+    elim (some_cases P (one ∷ []) (other ∷ []) set some) [
+      | inl first ↦ some_right P (other ∷ []) (one ∷ []) set first
+      | inr last ↦ some_left P (other ∷ []) (one ∷ []) set last
+    ]
+
+-- two classes in the other order
+pub splits_turned : (net : Net) (xs : List Branch) (one other : Branch) → Splits net xs (one ∷ other ∷ []) → Splits net xs (other ∷ one ∷ [])
+splits_turned net xs one other splits = record {
+  exact = λ set. (
+    λ some. some_turned (IsGrownSetIn net) one other set ((splits.exact set).0 some),
+    λ some. (splits.exact set).1 (some_turned (IsGrownSetIn net) other one set some),
+  );
+  disjoint = pairs_append AreDisjoint (other ∷ []) (one ∷ []) (pairs_one AreDisjoint other) (pairs_one AreDisjoint one)
+      (λ x y first last.
+      subst (λ (c : Branch). AreDisjoint c y) (sym (contains_one other x first))
+      (subst (λ (c : Branch). AreDisjoint other c) (sym (contains_one one y last)) (disjoint_turned one other (splits.disjoint 0 1 one (omega arith) (omega arith)))));
+  within = λ from y there disjoint.
+      splits.within from y (elim (Contains-append_cases (other ∷ []) (one ∷ []) y there) [
+        | inl first ↦ Contains-append_right (one ∷ []) (other ∷ []) y first
+        | inr last ↦ Contains-append_left (one ∷ []) (other ∷ []) y last
+      ]) disjoint;
+}
+
 replaced : (net : Net) (rest xs ys : List Branch) (set : List Bool) → (GrownInSome net xs set → GrownInSome net ys set) → GrownInSome net (rest ++ xs) set → GrownInSome net (rest ++ ys) set
 replaced net rest xs ys set follows some =
     elim (some_cases (IsGrownSetIn net) rest xs set some) [
@@ -188,3 +213,10 @@ ones_divided net xs ys ones = record {
   apart = λ set there some. contains_none set there;
   disjoint = ones.disjoint;
 }
+
+-- the division begins with the one class, or with none where nothing is grown in it
+pub divided_live : (net : Net) (class : Branch) → IsDivided net (class ∷ []) (class ∷ []) []
+divided_live net class = ones_divided net (class ∷ []) (class ∷ []) (ones_live net [] [] class (pairs_one AreDisjoint class) (ones_none net))
+
+pub divided_dead : (net : Net) (class : Branch) → ((set : List Bool) → IsGrownSetIn net class set → ⊥) → IsDivided net (class ∷ []) [] []
+divided_dead net class dead = ones_divided net (class ∷ []) [] (ones_dead net [] [] class dead (ones_none net))

@@ -8,7 +8,7 @@ use Rattle.closed_sets.specs.ClosedSets.{has_input_in, has_output_in, IsSiphon, 
 use Rattle.closed_sets.specs.Growth.{IsFirst, is_input_in, with_place, only_place, Belongs, GrowsWhole, more, IsGrownIn}
 use Rattle.closed_sets.proofs.Below.{any_at, any_from, pair_at, pair_from}
 use Rattle.closed_sets.proofs.Firsts.{first_same}
-use Rattle.siphon_branch.specs.Held.{IsNextPlace, IsLowestLeft, IsLowestInput}
+use Rattle.siphon_branch.specs.LiveClasses.{IsNextPlace, IsLowestLeft, IsLowestInput}
 use Rattle.siphon_branch.proofs.Growths.{same_growth, growth_next}
 
 -- the part without a place

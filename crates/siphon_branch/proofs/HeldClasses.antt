@@ -16,10 +16,11 @@ use Rattle.closed_sets.proofs.SmallerSiphons.{nonempty_from}
 use Rattle.siphon_branch.specs.declared.branch.Branch.{Branch}
 use Rattle.siphon_branch.specs.declared.live_class.LiveClass.{LiveClass}
 use Rattle.siphon_branch.specs.Classes.{AreDisjoint, HasSize, IsConsistent, IsGrownSetIn}
-use Rattle.siphon_branch.specs.Held.{branch_of, branches_of, IsDead, IsHeld, IsLiveOf, IsNextPlace, IsWhole, KeepsLive, part_containing, part_without}
+use Rattle.siphon_branch.specs.LiveClasses.{branch_of, branches_of, IsDead, IsHeld, IsLiveOf, IsNextPlace, IsWhole, part_containing, part_without}
+use Rattle.siphon_branch.specs.Held.{KeepsLive}
 use Rattle.siphon_branch.specs.Searches.{IsDivided}
 use Rattle.siphon_branch.proofs.Complements.{has_within}
-use Rattle.siphon_branch.proofs.Divisions.{Splits, divided_on, some_left, some_right, some_cases, some_one, from_one, pairs_one}
+use Rattle.siphon_branch.proofs.Divisions.{Splits, splits_turned, divided_on, some_left, some_right, some_cases, some_one, from_one, pairs_one}
 use Rattle.siphon_branch.proofs.Growths.{growth_over}
 use Rattle.siphon_branch.proofs.Halves.{to_without, from_without, to_containing, from_containing, next_below, next_free}
 use Rattle.siphon_branch.proofs.Lists.{contains_one, pairs_append}
@@ -40,15 +41,18 @@ in_greatest net C A G S greatest siphon belongs =
       | inr out ↦ out
     ]))
 
--- a class whose greatest siphon is empty, or lacks a place that is contained, has none
-pub dead_from : (net : Net) (class : Branch) (found : List Bool) → HasSize net.places class → IsGreatestSiphon net (λ p. not (has class.avoids p)) (has found) → IsEmpty found ⊎ ((p : ℕ) × (p < net.places) × IsTrue (has class.contains p) × (has found p ≡ false)) → IsDead net class
-dead_from net class found size greatest lacks list grown =
-    let within = in_greatest net (has class.contains) (has class.avoids) (has found) (has list) greatest grown.grown.siphon grown.grown.belongs in
+-- in a dead class no siphon is grown
+pub dead_grown : (net : Net) (class : Branch) → IsDead net class → (set : List Bool) → IsGrownSetIn net class set → ⊥
+dead_grown net class dead set found =
+    dead (has set) found.grown.siphon (grown_some net (has class.contains) (has class.avoids) (has set) found.grown) found.grown.belongs
+
+-- a class whose greatest siphon is empty, or lacks a place that is contained, is dead
+pub dead_from : (net : Net) (class : Branch) (found : List Bool) → IsGreatestSiphon net (λ p. not (has class.avoids p)) (has found) → IsEmpty found ⊎ ((p : ℕ) × (p < net.places) × IsTrue (has class.contains p) × (has found p ≡ false)) → IsDead net class
+dead_from net class found greatest lacks S siphon some belongs =
+    let within = in_greatest net (has class.contains) (has class.avoids) (has found) S greatest siphon belongs in
     elim lacks [
-      | inl empty ↦
-          let at = any_from net.places (has list) (grown_some net (has class.contains) (has class.avoids) (has list) grown.grown) in
-          both_ways (has found at.0) (empty at.0) (within at.0 at.1 at.2)
-      | inr lost ↦ both_ways (has found lost.0) lost.3 (within lost.0 lost.1 (grown.grown.belongs.has_all lost.0 lost.1 lost.2))
+      | inl empty ↦ let at = any_from net.places S some in both_ways (has found at.0) (empty at.0) (within at.0 at.1 at.2)
+      | inr lost ↦ both_ways (has found lost.0) lost.3 (within lost.0 lost.1 (belongs.has_all lost.0 lost.1 lost.2))
     ]
 
 -- a place that is contained but not in the set
@@ -69,7 +73,7 @@ lacking n contains found size not_within =
 
 pub dead_empty_or_past : (net : Net) (class : Branch) (found : List Bool) → HasSize net.places class → length found ≡ net.places → IsGreatestSiphon net (λ p. not (has class.avoids p)) (has found) → IsEmpty found ⊎ (IsSubset class.contains found → ⊥) → IsDead net class
 dead_empty_or_past net class found size size' greatest either =
-    dead_from net class found size greatest (elim either [
+    dead_from net class found greatest (elim either [
       | inl empty ↦ inl empty
       | inr past ↦ inr (lacking net.places class.contains found size.contains past)
     ])
@@ -214,7 +218,7 @@ module _ (net : Net) (class : LiveClass) (held : IsHeld net class) where
     split_one dead = record {
       exact = λ list. (
         λ some. some_one (IsGrownSetIn net) Containing list (elim (either_part list (from_one (IsGrownSetIn net) (branch_of class) list some)) [
-          | inl one ↦ absurd (dead list one)
+          | inl one ↦ absurd (dead_grown net Without dead list one)
           | inr other ↦ other
         ]),
         λ some. some_one (IsGrownSetIn net) (branch_of class) list (has_it list (from_one (IsGrownSetIn net) Containing list some)),
@@ -224,18 +228,28 @@ module _ (net : Net) (class : LiveClass) (held : IsHeld net class) where
           subst (λ (c : Branch). AreDisjoint other c) (sym (contains_one Containing y there)) (containing_apart other (disjoint (branch_of class) (0, omega arith, refl)));
     }
 
-    -- one step down: the part without the place was kept where it is live
+    -- one step down: the part without the place is dead, or comes before or after the other
+    pub step_dead : (origin rest : List Branch) (met : List (List Bool)) → IsDead net Without → IsDivided net origin (rest ++ branch_of class ∷ []) met → IsDivided net origin (rest ++ Containing ∷ []) met
+    step_dead origin rest met dead divided = divided_on net origin rest (branch_of class ∷ []) (Containing ∷ []) met (split_one dead) divided
+
+    step_two : (origin rest : List Branch) (met : List (List Bool)) → IsDivided net origin (rest ++ branch_of class ∷ []) met → IsDivided net origin (rest ++ Without ∷ Containing ∷ []) met
+    step_two origin rest met divided = divided_on net origin rest (branch_of class ∷ []) (Without ∷ Containing ∷ []) met split_two divided
+
+    pub step_turned : (origin rest : List Branch) (met : List (List Bool)) → IsDivided net origin (rest ++ branch_of class ∷ []) met → IsDivided net origin (rest ++ Containing ∷ Without ∷ []) met
+    step_turned origin rest met divided =
+        divided_on net origin rest (branch_of class ∷ []) (Containing ∷ Without ∷ []) met (splits_turned net (branch_of class ∷ []) Without Containing split_two) divided
+
+    -- the part without the place was kept where it is live
     pub step_divided : (origin : List Branch) (old new : List LiveClass) (met : List (List Bool)) → KeepsLive net Without old new → IsDivided net origin (branches_of old ++ branch_of class ∷ []) met → IsDivided net origin (branches_of new ++ Containing ∷ []) met
     step_divided origin old new met kept divided =
         elim kept [
           | inl none ↦
-              subst (λ (xs : List LiveClass). IsDivided net origin (branches_of xs ++ Containing ∷ []) met) (sym none.0)
-              (divided_on net origin (branches_of old) (branch_of class ∷ []) (Containing ∷ []) met (split_one none.1) divided)
+              subst (λ (xs : List LiveClass). IsDivided net origin (branches_of xs ++ Containing ∷ []) met) (sym none.0) (step_dead origin (branches_of old) met none.1 divided)
           | inr some ↦
               let same : branches_of new ≡ branches_of old ++ Without ∷ [] =
               ap branches_of some.1 ∙ map-append branch_of old (some.0 ∷ []) ∙ ap (λ (c : Branch). branches_of old ++ c ∷ []) some.2.same in
               subst (λ (xs : List Branch). IsDivided net origin xs met) (sym (ap (λ (xs : List Branch). xs ++ Containing ∷ []) same ∙ append_assoc (branches_of old) (Without ∷ []) (Containing ∷ [])))
-              (divided_on net origin (branches_of old) (branch_of class ∷ []) (Without ∷ Containing ∷ []) met split_two divided)
+              (step_two origin (branches_of old) met divided)
         ]
 
     -- a siphon that avoids the place too lies in what the place leaves of the greatest siphon
@@ -276,15 +290,15 @@ module _ (net : Net) (class : LiveClass) (held : IsHeld net class) where
 
     -- it is dead where a contained place falls, or nothing is left
     pub dead_lost : LosesWithout net class.contains p class.greatest → IsDead net Without
-    dead_lost loses list grown =
-        let within = in_rest (has list) grown.grown.siphon (λ q here member. not_from_false _ (elim (cases_Bool (has (set class.avoids p true) q)) [
-          | inl avoided ↦ absurd (both_ways (has list q) (grown.grown.belongs.has_none q here avoided) member)
+    dead_lost loses S siphon some belongs =
+        let within = in_rest S siphon (λ q here member. not_from_false _ (elim (cases_Bool (has (set class.avoids p true) q)) [
+          | inl avoided ↦ absurd (both_ways (S q) (belongs.has_none q here avoided) member)
           | inr free ↦ free
         ])) in
-        both_ways (has list loses.place) (loses.lost (has list) grown.grown.siphon within) (grown.grown.belongs.has_all loses.place loses.below loses.kept)
+        both_ways (S loses.place) (loses.lost S siphon within) (belongs.has_all loses.place loses.below loses.kept)
 
     pub dead_empty : (left : List Bool) → KeepsWithout net class.contains p class.greatest left → IsEmpty left → IsDead net Without
-    dead_empty left keeps empty = dead_from net Without left without_size (greatest_less left keeps.greatest) (inl empty)
+    dead_empty left keeps empty = dead_from net Without left (greatest_less left keeps.greatest) (inl empty)
 
     -- else it is held with what is left
     pub without_held : (left : List Bool) → length left ≡ net.places → KeepsWithout net class.contains p class.greatest left → (IsEmpty left → ⊥) → IsHeld net record { contains = class.contains; avoids = set class.avoids p true; greatest = left; opens = class.opens }
@@ -306,12 +320,8 @@ module _ (net : Net) (class : LiveClass) (held : IsHeld net class) where
     pub in_contains : p < length class.contains
     in_contains = omega (arith, below, held.size.contains)
 
-    pub kept_live : (left : List Bool) → length left ≡ net.places → KeepsWithout net class.contains p class.greatest left → (IsEmpty left → ⊥) → (part : LiveClass) → part ≡ class → (avoids greatest : List Bool) → avoids ≡ set part.avoids p true → greatest ≡ left → (old new : List LiveClass) → new ≡ old ++ record { contains = part.contains; avoids = avoids; greatest = greatest; opens = part.opens } ∷ [] → KeepsLive net Without old new
-    kept_live left size keeps some part same avoids greatest same' same'' old new pushed =
-        let equal : ◌≡◌ {A = LiveClass} record { contains = part.contains; avoids = avoids; greatest = greatest; opens = part.opens } record { contains = class.contains; avoids = set class.avoids p true; greatest = left; opens = class.opens } =
-        λ i. record { contains = (same i).contains; avoids = (same' ∙ ap (λ (c : LiveClass). set c.avoids p true) same) i; greatest = same'' i; opens = (same i).opens } in
-        inr (
-          record { contains = class.contains; avoids = set class.avoids p true; greatest = left; opens = class.opens },
-          subst (λ (c : LiveClass). new ≡ old ++ c ∷ []) equal pushed,
-          record { held = without_held left size keeps some; same = refl },
-        )
+    pub part_live : (left : List Bool) → length left ≡ net.places → KeepsWithout net class.contains p class.greatest left → (IsEmpty left → ⊥) → (contains avoids avoids' greatest opens : List Bool) → contains ≡ class.contains → avoids ≡ class.avoids → avoids' ≡ set avoids p true → greatest ≡ left → opens ≡ class.opens → IsLiveOf net Without record { contains = contains; avoids = avoids'; greatest = greatest; opens = opens }
+    part_live left size keeps some contains avoids avoids' greatest opens same before after rest same' =
+        let equal : ◌≡◌ {A = LiveClass} record { contains = class.contains; avoids = set class.avoids p true; greatest = left; opens = class.opens } record { contains = contains; avoids = avoids'; greatest = greatest; opens = opens } =
+        λ i. record { contains = sym same i; avoids = sym (after ∙ ap (λ (list : List Bool). set list p true) before) i; greatest = sym rest i; opens = sym same' i } in
+        subst (λ (c : LiveClass). IsLiveOf net Without c) equal record { held = without_held left size keeps some; same = refl }

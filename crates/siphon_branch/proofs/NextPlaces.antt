@@ -13,7 +13,8 @@ use Rattle.closed_sets.proofs.Below.{any_from, none_from, pair_at, pair_from}
 use Rattle.closed_sets.proofs.Passes.{siphon_from_closed}
 use Rattle.closed_sets.proofs.SmallerSiphons.{nonempty_from}
 use Rattle.siphon_branch.specs.declared.live_class.LiveClass.{LiveClass}
-use Rattle.siphon_branch.specs.Held.{HasNoInput, IsHeld, IsNextPlace, IsWhole}
+use Rattle.siphon_branch.specs.LiveClasses.{IsHeld, IsNextPlace, IsWhole}
+use Rattle.siphon_branch.specs.Held.{HasNoInput}
 use Rattle.siphon_branch.proofs.Parts.{nowhere}
 
 -- the entries of a transition are looked at in their order

@@ -20,14 +20,14 @@ use Rattle.siphon_branch.specs.declared.live_class.LiveClass.{LiveClass}
 use Rattle.siphon_branch.specs.declared.progress.Progress.{Progress}
 use Rattle.siphon_branch.specs.declared.progress.Progress.TheVariants.{Done}
 use Rattle.siphon_branch.specs.Classes.{HasSize, IsConsistent, IsGrownSetIn, IsSetIn, every_set}
-use Rattle.siphon_branch.specs.Held.{branch_of, branches_of, IsHeld, IsHeldSearch}
+use Rattle.siphon_branch.specs.LiveClasses.{branch_of, branches_of, IsHeld}
+use Rattle.siphon_branch.specs.Held.{IsHeldSearch}
 use Rattle.siphon_branch.specs.Limits.{HasAtMostGrown, IsGrownSet, PassesLimit}
 use Rattle.siphon_branch.specs.Met.{IsListOf}
 use Rattle.siphon_branch.specs.Searches.{Answers, Begins, DividesAll, GoesOn, InSome, IsDivided, IsSearch, SearchValue, SplitsMinimal, StartedFromAll, searched_net}
-use Rattle.siphon_branch.proofs.Divisions.{from_one, some_none, some_one}
 use Rattle.siphon_branch.proofs.HeldClasses.{held_consistent}
 use Rattle.siphon_branch.proofs.MinimalGrown.{grows_in, growth_other, minimal_grown}
-use Rattle.siphon_branch.proofs.Roots.{grown_everywhere}
+use Rattle.siphon_branch.proofs.Roots.{every_divided, every_few, every_met, every_passes}
 use Rattle.siphon_branch.proofs.Sorting.{the_list}
 
 -- what holds of each held class holds of each of the classes alone
@@ -88,37 +88,24 @@ module _ (search : SearchValue) (holds : IsSearch search) where
   }
 
   module _ (all : StartedFromAll search) where
-    from_all : (set : List Bool) → IsGrownSet net set ↔ InSome (IsGrownSetIn net) search.origin set
-    from_all set =
-        subst (λ (xs : List Branch). IsGrownSet net set ↔ InSome (IsGrownSetIn net) xs set) (sym all) (
-          λ grown. some_one (IsGrownSetIn net) (every_set net.places) set ((grown_everywhere net set).0 grown),
-          λ some. (grown_everywhere net set).1 (from_one (IsGrownSetIn net) (every_set net.places) set some),
-        )
+    from_all : IsDivided net (every_set net.places ∷ []) search.pending search.met
+    from_all = subst (λ (xs : List Branch). IsDivided net xs search.pending search.met) all holds.divided
 
     pub divides_all : DividesAll search
-    divides_all set = (λ grown. (holds.divided.grown set).0 ((from_all set).0 grown), λ either. (from_all set).1 ((holds.divided.grown set).1 either))
+    divides_all = every_divided net search.pending search.met from_all
 
     pub passes : length search.met ≡ search.limit + 1 → PassesLimit net search.limit search.met
-    passes count = record { count = count; distinct = holds.divided.distinct; grown = λ set there. (divides_all set).1 (inl there) }
+    passes = every_passes net search.pending search.met from_all search.limit
 
     module _ (none : search.pending ≡ []) where
-      met_grown : IsListOf (IsGrownSet net) search.met
-      met_grown = record {
-        distinct = holds.divided.distinct;
-        members = λ set. (
-          λ there. (divides_all set).1 (inl there),
-          λ grown. elim ((divides_all set).0 grown) [
-            | inl there ↦ there
-            | inr pending ↦ absurd (some_none (IsGrownSetIn net) set (subst (λ (xs : List Branch). InSome (IsGrownSetIn net) xs set) none pending))
-          ],
-        );
-      }
+      none_left : IsDivided net (every_set net.places ∷ []) [] search.met
+      none_left = subst (λ (xs : List Branch). IsDivided net (every_set net.places ∷ []) xs search.met) none from_all
 
       pub at_most : length search.met ≤ search.limit → HasAtMostGrown net search.limit
-      at_most few = record { list = search.met; few = few; every = λ set grown. (met_grown.members set).1 grown }
+      at_most = every_few net search.met none_left search.limit
 
       pub listed : (sorted : List (List Bool)) → IsPermutation search.found sorted → IsSorted (slice_cmp bool_cmp) sorted → IsTheList (slice_cmp bool_cmp) (IsMinimalSet net) sorted
-      listed sorted moved up = the_list net search.met search.found sorted met_grown holds.found moved up
+      listed sorted moved up = the_list net search.met search.found sorted (every_met net search.met none_left) holds.found moved up
 
 -- a search over all siphons of the net with this limit
 pub record IsOverAll (net_lists : NetLists) (sets : ℕ) (search : SearchValue) : Type 0 where

@@ -8,7 +8,8 @@ use Rattle.net_values.specs.PlaceSets.{has}
 use Rattle.closed_sets.specs.ClosedSets.{IsMinimalSiphon}
 use Rattle.siphon_branch.specs.declared.branch.Branch.{Branch}
 use Rattle.siphon_branch.specs.declared.live_class.LiveClass.{LiveClass}
-use Rattle.siphon_branch.specs.Held.{AddsFound, branch_of, branches_of, Descends, Extends, IsHeld, IsSomehowUnderway, IsUnderway, KeepsUnderway}
+use Rattle.siphon_branch.specs.LiveClasses.{branch_of, branches_of, IsHeld}
+use Rattle.siphon_branch.specs.Held.{AddsFound, Descends, Extends, IsSomehowUnderway, IsUnderway, KeepsUnderway}
 use Rattle.siphon_branch.specs.Met.{IsListOf}
 use Rattle.siphon_branch.specs.Searches.{IsDivided, IsMinimalOf}
 use Rattle.siphon_branch.proofs.Divisions.{pairs_across}
@@ -34,7 +35,7 @@ pub cut_back : {X : Type 0} (xs ys : List X) → Extends xs ys → take (length 
 cut_back xs ys extends = ap (λ list. take (length xs) list) extends.appended ∙ take-append_seam xs extends.added
 
 -- every siphon that was met has the size of the net, and so has every one that was found
-met_sized : (net : Net) (origin pending : List Branch) (met : List (List Bool)) → IsDivided net origin pending met → (set : List Bool) → Contains met set → length set ≡ net.places
+pub met_sized : (net : Net) (origin pending : List Branch) (met : List (List Bool)) → IsDivided net origin pending met → (set : List Bool) → Contains met set → length set ≡ net.places
 met_sized net origin pending met divided set there = ((divided.grown set).1 (inl there)).holds.size
 
 pub met_sizes : (net : Net) (classes : List LiveClass) (met found : List (List Bool)) → IsSomehowUnderway net classes met found → All (λ set. length set ≡ net.places) met

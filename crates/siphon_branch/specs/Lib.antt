@@ -2,6 +2,7 @@
 pub mod Limits
 pub mod Met
 pub mod Classes
+pub mod LiveClasses
 pub mod Searches
 pub mod Faults
 pub mod Laws

@@ -16,7 +16,7 @@ pub type Branches = List<Branch>;
 
 impl Branch {
     /// The class of all siphons of a net with this many places.
-    pub(crate) fn all(alloc: Global, places: usize) -> Result<Branch, NoMemory>
+    pub fn all(alloc: Global, places: usize) -> Result<Branch, NoMemory>
         requires { places ≤ MAX_ENTRIES }
         ensures { IfOk result (λ class. class ≡ every_set places) }
     {

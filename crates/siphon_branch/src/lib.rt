@@ -20,5 +20,6 @@ pub use laws::{
     minimal_siphons_have_a_list, trap_lists_are_siphon_lists_reversed,
 };
 pub use list::minimal_siphons;
+pub use live_class::LiveClass;
 pub use progress::{AdvanceFault, Progress};
 pub use search::Search;

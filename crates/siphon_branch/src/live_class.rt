@@ -3,7 +3,8 @@ ghost use Rattle.net_values.specs.FlatNets.{net_of};
 ghost use Rattle.net_values.specs.PlaceSets.{has};
 ghost use Rattle.closed_sets.specs.Growth.{IsFirst, is_input_in};
 ghost use Rattle.siphon_branch.specs.Classes.{HasSize};
-ghost use Rattle.siphon_branch.specs.Held.{branch_of, IsDead, HasNoInput, IsHeld, IsLiveOf, IsNextPlace, IsWhole, KeepsLive, part_without};
+ghost use Rattle.siphon_branch.specs.LiveClasses.{branch_of, IsDead, IsHeld, IsLiveOf, IsNextPlace, IsWhole, part_without};
+ghost use Rattle.siphon_branch.specs.Held.{HasNoInput, KeepsLive};
 
 use crate::branch::Branch;
 use closed_sets::{Fallen, add_place, find_open, greatest_siphon, keeps_without};
@@ -13,20 +14,16 @@ use std::alloc::Global;
 /// A class that has a siphon: the greatest siphon that avoids the one set has all places of the other. The
 /// greatest siphon is kept, and the transitions that are open at the contained set.
 #[derive(Drop)]
-pub(crate) struct LiveClass {
-    pub(crate) contains: PlaceSet,
-    pub(crate) avoids: PlaceSet,
-    pub(crate) greatest: PlaceSet,
-    pub(crate) opens: PlaceSet,
+pub struct LiveClass {
+    pub contains: PlaceSet,
+    pub avoids: PlaceSet,
+    pub greatest: PlaceSet,
+    pub opens: PlaceSet,
 }
 
 impl LiveClass {
     /// The class with what is kept of it, where it is live.
-    pub(crate) fn of(
-        alloc: Global,
-        net: &FlatNet,
-        class: &Branch,
-    ) -> Result<Option<LiveClass>, NoMemory>
+    pub fn of(alloc: Global, net: &FlatNet, class: &Branch) -> Result<Option<LiveClass>, NoMemory>
         requires { HasSize (net_of net.now).places class.now }
         ensures { IfOk result (λ live. MatchOption live (IsDead (net_of net.now) class.now) (IsLiveOf (net_of net.now) class.now)) }
     {
@@ -70,7 +67,7 @@ impl LiveClass {
     /// The place at which the class is parted: where nothing is contained, the lowest of the greatest siphon, else
     /// the lowest input place in it of the lowest open transition. There is none where the contained set is a
     /// siphon.
-    pub(crate) fn next_place(&self, net: &FlatNet) -> Option<usize>
+    pub fn next_place(&self, net: &FlatNet) -> Option<usize>
         requires { IsHeld (net_of net.now) self.now }
         ensures { MatchOption result (IsWhole (net_of net.now) (has self.now.contains))
             (IsNextPlace (net_of net.now) (has self.now.contains) (has self.now.greatest)) }
@@ -82,6 +79,37 @@ impl LiveClass {
             return None;
         };
         first_input(net, &self.greatest, t)
+    }
+
+    /// The part of the class without place `p`, where it is live. What the scratch set and the scratch list hold is
+    /// lost.
+    pub fn without(
+        &self,
+        alloc: Global,
+        net: &FlatNet,
+        p: usize,
+        left: &mut PlaceSet,
+        fallen: &mut Fallen,
+    ) -> Result<Option<LiveClass>, NoMemory>
+        requires held { IsHeld (net_of net.now) self.now }
+        requires next { IsNextPlace (net_of net.now) (has self.now.contains) (has self.now.greatest) p }
+        requires left { length left.old ≡ (net_of net.now).places }
+        ensures left { length left.new ≡ length left.old }
+        ensures part { IfOk result (λ part. MatchOption part (IsDead (net_of net.now) (part_without (branch_of self.now) p))
+            (IsLiveOf (net_of net.now) (part_without (branch_of self.now) p))) }
+    {
+        left.copy_from(&self.greatest);
+        if !keeps_without(net, left, p, &self.contains, fallen) || left.is_empty() {
+            return Ok(None);
+        }
+        let mut avoids = self.avoids.copy(alloc)?;
+        avoids.insert(p);
+        Ok(Some(LiveClass {
+            contains: self.contains.copy(alloc)?,
+            avoids,
+            greatest: left.copy(alloc)?,
+            opens: self.opens.copy(alloc)?,
+        }))
     }
 
     /// Appends the part of the class without place `p`, where it is live. What the scratch set and the scratch list
@@ -101,18 +129,14 @@ impl LiveClass {
         ensures left { length left.new ≡ length left.old }
         ensures kept { OnOk result (KeepsLive (net_of net.now) (part_without (branch_of self.now) p) classes.old classes.new) }
     {
-        left.copy_from(&self.greatest);
-        if !keeps_without(net, left, p, &self.contains, fallen) || left.is_empty() {
-            return Ok(());
+        match self.without(alloc, net, p, left, fallen)? {
+            Some(part) => classes.push(part),
+            None => Ok(()),
         }
-        let mut part = self.copy(alloc)?;
-        part.avoids.insert(p);
-        part.greatest.copy_from(left);
-        classes.push(part)
     }
 
     /// Goes on to the part of the class with place `p`.
-    pub(crate) fn take(&mut self, net: &FlatNet, p: usize)
+    pub fn take(&mut self, net: &FlatNet, p: usize)
         requires held { IsHeld (net_of net.now) self.old }
         requires next { IsNextPlace (net_of net.now) (has self.old.contains) (has self.old.greatest) p }
         ensures contains { self.new.contains ≡ slice_set self.old.contains p true }

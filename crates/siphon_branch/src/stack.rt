@@ -1,7 +1,8 @@
 ghost use Rattle.std.specs.Prelude.{◌≡◌, [], ◌⊎◌, ◌≤◌, All, AllPairs, IfOk, OnErr, OnOk, length};
 ghost use Rattle.net_values.specs.FlatNets.{net_of};
 ghost use Rattle.siphon_branch.specs.Classes.{AreDisjoint, HasSize};
-ghost use Rattle.siphon_branch.specs.Held.{branches_of, Extends, IsSomehowUnderway, IsUnderway, KeepsLive, MeetsMore};
+ghost use Rattle.siphon_branch.specs.LiveClasses.{branches_of};
+ghost use Rattle.siphon_branch.specs.Held.{Extends, IsSomehowUnderway, IsUnderway, KeepsLive, MeetsMore};
 
 use crate::branch::{Branch, Branches};
 use crate::live_class::LiveClass;

@@ -1,7 +1,8 @@
 ghost use Rattle.std.specs.Prelude.{◌≡◌, [], ◌⊎◌, ◌++◌, ◌∷◌, ◌≤◌, IfOk, OnErr, OnOk, All, length};
 ghost use Rattle.net_values.specs.FlatNets.{net_of};
 ghost use Rattle.net_values.specs.PlaceSets.{has};
-ghost use Rattle.siphon_branch.specs.Held.{AddsFound, Descends, Extends, IsHeld, IsSomehowUnderway, IsWhole, KeepsUnderway};
+ghost use Rattle.siphon_branch.specs.LiveClasses.{IsHeld, IsWhole};
+ghost use Rattle.siphon_branch.specs.Held.{AddsFound, Descends, Extends, IsSomehowUnderway, KeepsUnderway};
 
 use crate::live_class::LiveClass;
 use closed_sets::{Fallen, has_no_smaller_siphon};

@@ -1,5 +1,5 @@
 use Rattle.std.proofs.Common.{◌≡◌, take}
-use Rattle.siphon_branch.specs.Held.{branches_of}
+use Rattle.siphon_branch.specs.LiveClasses.{branches_of}
 use Rattle.siphon_branch.proofs.stack.alone.Given as goal
 
 abbrev pub invariant-loop-class : goal.invariant-loop-class
