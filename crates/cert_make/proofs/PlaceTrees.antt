@@ -1,6 +1,6 @@
 -- A tree that is split at every place in order: at its leaves each place is in one of the two sets, so the contained
 -- set is a nonempty siphon, and has a marked trap in it, or no nonempty siphon belongs to the class.
-use Rattle.std.proofs.Common.{◌≡◌, ◌⊎◌, refl, ◌∙◌, subst, ℕ, zero, suc, ◌+◌, ◌<◌, ◌≤◌, ◌==◌, List, [], ◌∷◌, ◌++◌, Bool, false, IsTrue, inl, inr, arith}
+use Rattle.std.proofs.Common.{◌≡◌, ◌⊎◌, refl, ap, ◌∙◌, subst, ℕ, zero, suc, ◌+◌, ◌<◌, ◌≤◌, ◌==◌, ◌||◌, List, [], ◌∷◌, ◌++◌, Bool, false, IsTrue, inl, inr, arith}
 use Rattle.std.proofs.lemmas.Bool.{cases_Bool, cases_eq, both_ways, or_left, or_right, eq-eqb, ne_eqb, and_parts, not-true}
 use Rattle.net_values.specs.Net.{Net}
 use Rattle.net_values.specs.declared.limits.TheConstants.{MAX_PLACES}
@@ -10,7 +10,6 @@ use Rattle.closed_sets.specs.Growth.{is_open}
 use Rattle.closed_sets.proofs.Below.{any_at, any_from, pair_at, pair_from}
 use Rattle.closed_sets.proofs.Firsts.{first_of}
 use Rattle.closed_sets.proofs.Passes.{siphon_from_closed}
-use Rattle.siphon_branch.proofs.Parts.{or_skip}
 use Rattle.certificates.specs.declared.certificate.Certificate.TheVariants.{Commoner}
 use Rattle.certificates.specs.declared.certificate.TreeLine.{TreeLine}
 use Rattle.certificates.specs.declared.certificate.TreeLine.TheVariants.{Split, Empty, Trap}
@@ -32,7 +31,7 @@ decided_without class n decided = record {
     | inr other ↦ elim (decided.before q (omega arith)) [ inl inside ↦ inl inside | inr out ↦ inr (or_right (q == n) (class.avoids q) out) ]
   ];
   contains = λ q past. decided.contains q (omega arith);
-  avoids = λ q past. or_skip (q == n) (class.avoids q) (ne_eqb q n (λ same. omega arith)) ∙ decided.avoids q (omega arith);
+  avoids = λ q past. ap (λ (b : Bool). b || class.avoids q) (ne_eqb q n (λ same. omega arith)) ∙ decided.avoids q (omega arith);
 }
 
 decided_containing : (class : SiphonClass) (n : ℕ) → IsDecided class n → IsDecided (containing class n) (suc n)
@@ -41,7 +40,7 @@ decided_containing class n decided = record {
     | inl same ↦ inl (or_left (q == n) (class.contains q) (eq-eqb q n same))
     | inr other ↦ elim (decided.before q (omega arith)) [ inl inside ↦ inl (or_right (q == n) (class.contains q) inside) | inr out ↦ inr out ]
   ];
-  contains = λ q past. or_skip (q == n) (class.contains q) (ne_eqb q n (λ same. omega arith)) ∙ decided.contains q (omega arith);
+  contains = λ q past. ap (λ (b : Bool). b || class.contains q) (ne_eqb q n (λ same. omega arith)) ∙ decided.contains q (omega arith);
   avoids = λ q past. decided.avoids q (omega arith);
 }
 

@@ -1,7 +1,6 @@
 pub mod Growths
 pub mod Lists
 pub mod Complements
-pub mod Parts
 pub mod Halves
 pub mod Divisions
 pub mod HeldClasses

@@ -7,6 +7,7 @@ use Rattle.net_values.specs.declared.column.WeightedPlace.{WeightedPlace}
 use Rattle.net_values.specs.Columns.{Lists}
 use Rattle.net_values.specs.Net.{Net}
 use Rattle.net_values.specs.PlaceSets.{has, HasNoneFrom, IsEmpty, IsFirstFrom}
+use Rattle.net_values.proofs.TokenCounts.{nowhere}
 use Rattle.closed_sets.specs.ClosedSets.{has_input_in, has_output_in}
 use Rattle.closed_sets.specs.Growth.{IsFirst, is_input_in, is_open}
 use Rattle.closed_sets.proofs.Below.{any_from, none_from, pair_at, pair_from}
@@ -15,7 +16,6 @@ use Rattle.closed_sets.proofs.SmallerSiphons.{nonempty_from}
 use Rattle.siphon_branch.specs.declared.live_class.LiveClass.{LiveClass}
 use Rattle.siphon_branch.specs.LiveClasses.{IsHeld, IsNextPlace, IsWhole}
 use Rattle.siphon_branch.specs.Held.{HasNoInput}
-use Rattle.siphon_branch.proofs.Parts.{nowhere}
 
 -- the entries of a transition are looked at in their order
 module _ (net : Net) (S : ℕ → Bool) (t : ℕ) (entries : List WeightedPlace) (h : Lists net.places (λ p. net.pre p t) entries) (i : ℕ) (none : (k : ℕ) → k < i → S (get_or entries k nowhere).place ≡ false) where

@@ -1,6 +1,6 @@
 -- What a search tells: its parts are as its type says, so the grown siphons are met or grown in a pending class, and
 -- where none is pending the minimal ones that were found are all.
-use Rattle.std.proofs.Common.{◌≡◌, ◌↔◌, sym, ap, ◌∙◌, subst, ℕ, ◌+◌, ◌≤◌, List, [], ◌∷◌, Bool, suc, length, get_or, inl, inr, All, Ok, arith}
+use Rattle.std.proofs.Common.{◌≡◌, sym, ap, ◌∙◌, subst, ℕ, ◌+◌, ◌≤◌, List, [], ◌∷◌, Bool, suc, length, get_or, inl, inr, All, Ok, arith}
 use Rattle.std.specs.Cmp.Lexicographic.{slice_cmp}
 use Rattle.std.specs.List.Sorted.{IsPermutation, IsSorted}
 use Rattle.std.specs.Ordering.{bool_cmp}
@@ -22,8 +22,7 @@ use Rattle.siphon_branch.specs.declared.progress.Progress.TheVariants.{Done}
 use Rattle.siphon_branch.specs.Classes.{HasSize, IsConsistent, IsGrownSetIn, IsSetIn, every_set}
 use Rattle.siphon_branch.specs.LiveClasses.{branch_of, branches_of, IsHeld}
 use Rattle.siphon_branch.specs.Held.{IsHeldSearch}
-use Rattle.siphon_branch.specs.Limits.{HasAtMostGrown, IsGrownSet, PassesLimit}
-use Rattle.siphon_branch.specs.Met.{IsListOf}
+use Rattle.siphon_branch.specs.Limits.{HasAtMostGrown, PassesLimit}
 use Rattle.siphon_branch.specs.Searches.{Answers, Begins, DividesAll, GoesOn, InSome, IsDivided, IsSearch, SearchValue, SplitsMinimal, StartedFromAll, searched_net}
 use Rattle.siphon_branch.proofs.HeldClasses.{held_consistent}
 use Rattle.siphon_branch.proofs.MinimalGrown.{grows_in, growth_other, minimal_grown}

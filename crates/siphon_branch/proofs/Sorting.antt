@@ -1,6 +1,6 @@
 -- Distinct sets that are sorted ascend strictly, since sets that compare as equal are equal. The list is
 -- that of the minimal siphons: each is grown, so it was met and kept.
-use Rattle.std.proofs.Common.{◌≡◌, refl, sym, ap, ◌∙◌, subst, ℕ, ◌<◌, List, [], ◌∷◌, ◌++◌, Bool, true, false, length, get_or, Contains, Decides, arith}
+use Rattle.std.proofs.Common.{◌≡◌, refl, sym, ap, ◌∙◌, subst, ℕ, ◌<◌, List, [], ◌∷◌, Bool, true, false, length, get_or, Contains, Decides, arith}
 use Rattle.std.specs.declared.cmp.Ordering.{Ordering}
 use Rattle.std.specs.declared.cmp.Ordering.TheVariants.{Less, Equal, Greater}
 use Rattle.std.specs.Cmp.Lexicographic.{slice_cmp}
@@ -19,8 +19,8 @@ use Rattle.net_values.specs.PlaceSets.{has}
 use Rattle.net_values.specs.TheList.{IsTheList}
 use Rattle.closed_sets.specs.ClosedSets.{IsMinimalSiphon}
 use Rattle.closed_sets.specs.MinimalSets.{IsMinimalSet}
-use Rattle.siphon_branch.specs.Limits.{AreDistinct, PassesLimit, IsGrownSet}
-use Rattle.siphon_branch.specs.Met.{IsListOf, Adds, Overruns}
+use Rattle.siphon_branch.specs.Limits.{AreDistinct, IsGrownSet}
+use Rattle.siphon_branch.specs.Met.{IsListOf}
 use Rattle.siphon_branch.proofs.MinimalGrown.{minimal_grown}
 
 equal_sets : (one other : List Bool) → slice_cmp bool_cmp one other ≡ Equal → one ≡ other
@@ -69,21 +69,6 @@ ascending list distinct sorted i j d less within =
     let far = sorted_far (λ (x y : List Bool). is_lt (slice_cmp bool_cmp x y)) (ranks_by sets_total (λ (x : List Bool). x)) list sorted i j d (omega arith) within in
     less_from (slice_cmp bool_cmp (get_or list i d) (get_or list j d)) (slice_cmp bool_cmp (get_or list j d) (get_or list i d)) (sets_total.antisymm (get_or list j d) (get_or list i d)) far
     (λ same. distinct i j d less within (equal_sets _ _ same))
-
--- what was appended to the empty list is the list
-pub from_nothing : (P : List Bool → Type 0) (old new : List (List Bool)) → old ≡ [] → Adds P old new → IsListOf P new
-from_nothing P old new empty adds =
-    let same : new ≡ adds.added = adds.appended ∙ ap (λ (xs : List (List Bool)). xs ++ adds.added) empty in
-    subst (λ (xs : List (List Bool)). IsListOf P xs) (sym same) adds.exact
-
-pub passes_from_nothing : (net : Net) (limit : ℕ) (old new : List (List Bool)) → old ≡ [] → Overruns (IsGrownSet net) limit old new → PassesLimit net limit new
-passes_from_nothing net limit old new empty over =
-    let same : new ≡ over.adds.added = over.adds.appended ∙ ap (λ (xs : List (List Bool)). xs ++ over.adds.added) empty in
-    record {
-      count = over.count;
-      distinct = subst (λ (xs : List (List Bool)). AreDistinct xs) (sym same) over.adds.distinct;
-      grown = λ list some. over.adds.sound list (subst (λ (xs : List (List Bool)). Contains xs list) same some);
-    }
 
 pub the_list : (net : Net) (met found sorted : List (List Bool)) → IsListOf (IsGrownSet net) met → IsListOf (λ list. Contains met list × IsMinimalSiphon net (has list)) found → IsPermutation found sorted → IsSorted (slice_cmp bool_cmp) sorted → IsTheList (slice_cmp bool_cmp) (IsMinimalSet net) sorted
 the_list net met found sorted grown kept moved up = record {

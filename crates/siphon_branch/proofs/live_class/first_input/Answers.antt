@@ -1,8 +1,8 @@
 use Rattle.std.proofs.Common.{◌<◌, ◌≤◌, IsTrue, get_or, length, rules, arith}
 use Rattle.net_values.specs.FlatNets.{net_of}
 use Rattle.net_values.specs.PlaceSets.{has}
+use Rattle.net_values.proofs.TokenCounts.{nowhere}
 use Rattle.siphon_branch.proofs.NextPlaces.{input_none, input_first}
-use Rattle.siphon_branch.proofs.Parts.{nowhere}
 use Rattle.siphon_branch.proofs.live_class.first_input.Goals as goal
 
 pub returns-then-contains : goal.returns-then-contains

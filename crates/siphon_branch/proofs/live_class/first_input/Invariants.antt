@@ -1,6 +1,6 @@
 use Rattle.std.proofs.Common.{◌≡◌, ◌<◌, ℕ, false, get_or}
 use Rattle.net_values.specs.PlaceSets.{has}
-use Rattle.siphon_branch.proofs.Parts.{nowhere}
+use Rattle.net_values.proofs.TokenCounts.{nowhere}
 use Rattle.siphon_branch.proofs.live_class.first_input.Given as goal
 
 abbrev pub invariant-loop-entry : goal.invariant-loop-entry
