@@ -21,6 +21,7 @@ pub use certificate::{
 };
 pub use fault::ReadFault;
 pub use laws::{a_certificate_or_a_bad_line, one_reading};
+pub use numbers::place;
 pub use printing::print;
 pub use reading::read;
-pub use words::next_line;
+pub use words::{next_line, next_word, split};

@@ -22,7 +22,7 @@ fn number(least: u128, limit: u128, text: &[u8]) -> Option<u128>
 }
 
 /// The number of a place.
-pub(crate) fn place(text: &[u8]) -> Option<u32>
+pub fn place(text: &[u8]) -> Option<u32>
     ensures value { result ≡ place_in text.now }
     ensures range { IfSome result (λ p. p < 2048) }
 {

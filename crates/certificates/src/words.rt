@@ -4,7 +4,7 @@ ghost use Rattle.certificates.specs.Words.{before, from_first, words_in};
 use memchr::memchr;
 
 /// The bytes before the first separator, and those from it on.
-pub(crate) fn split(separator: u8, bytes: &[u8]) -> (&[u8], &[u8])
+pub fn split(separator: u8, bytes: &[u8]) -> (&[u8], &[u8])
     ensures first { result.0.now ≡ before separator bytes.now }
     ensures rest { result.1.now ≡ from_first separator bytes.now }
     ensures size { length result.0.now + length result.1.now ≡ length bytes.now }
@@ -36,7 +36,7 @@ pub fn next_line(bytes: &[u8]) -> Option<(&[u8], &[u8])>
 }
 
 /// The first word of what begins with a space, and what follows it.
-pub(crate) fn next_word(bytes: &[u8]) -> Option<(&[u8], &[u8])>
+pub fn next_word(bytes: &[u8]) -> Option<(&[u8], &[u8])>
     ensures words { MatchOption result (words_in bytes.now ≡ []) (λ x. words_in bytes.now ≡ x.0.now ∷ words_in x.1.now) }
     ensures shorter { IfSome result (λ x. length x.1.now < length bytes.now) }
 {

@@ -21,7 +21,7 @@ use Rattle.siphon_branch.proofs.AllSets.{Decided, Sized, the_list_of}
 use Rattle.siphon_branch.proofs.Decisions.{decide_grown, decide_minimal}
 use Rattle.siphon_branch.proofs.Sorting.{equal_itself, same_sets, decides_same, same_turned}
 
-same_equivalence : IsEquivalence same_sets
+pub same_equivalence : IsEquivalence same_sets
 same_equivalence = record {
   refl = λ x. (decides_same x x).1 refl;
   symm = same_turned;

@@ -60,7 +60,7 @@ same_turned one other =
     (λ holds. sym ((decides_same other one).0 holds), λ equal. (decides_same other one).1 (sym equal))
 
 -- distinct members stay so in another order
-distinct_sorted : (xs ys : List (List Bool)) → IsPermutation xs ys → AreDistinct xs → AreDistinct ys
+pub distinct_sorted : (xs ys : List (List Bool)) → IsPermutation xs ys → AreDistinct xs → AreDistinct ys
 distinct_sorted xs ys moved distinct =
     AllPairs-from_IsDistinct decides_same ys (IsDistinct-IsPermutation same_sets same_turned xs ys moved (IsDistinct-from_AllPairs decides_same xs distinct))
 

@@ -5,7 +5,7 @@ ghost use Rattle.net_values.specs.FlatNets.{net_of};
 ghost use Rattle.net_values.specs.TheList.{IsTheList};
 ghost use Rattle.closed_sets.specs.MinimalSets.{IsMinimalSet};
 ghost use Rattle.siphon_branch.specs.Classes.{AreDisjoint, HasSize, IsConsistent, every_set};
-ghost use Rattle.siphon_branch.specs.Searches.{Answers, Begins, DividesAll, GoesOn, IsDivided, IsMinimalOf, searched_net, SplitsMinimal, StartedFromAll};
+ghost use Rattle.siphon_branch.specs.Searches.{Answers, Begins, DividesAll, GoesOn, IsDivided, IsMinimalOf, IsSearch, searched_net, SplitsMinimal, StartedFromAll};
 ghost use Rattle.siphon_branch.specs.Limits.{HasAtMostGrown, PassesLimit};
 ghost use Rattle.siphon_branch.specs.Met.{IsListOf};
 
@@ -143,6 +143,17 @@ impl<'n> Search<'n> {
         ensures { result.now ≡ self.now.origin }
     {
         &self.origin
+    }
+
+    /// The minimal siphons that were met, all that were met, and the classes that are not yet taken, as lists of their
+    /// own. It takes no memory.
+    pub fn into_parts(self) -> (Sets, Sets, Branches)
+        ensures search { IsSearch self.entry }
+        ensures found { result.0 ≡ self.entry.found }
+        ensures met { result.1 ≡ self.entry.met }
+        ensures pending { result.2 ≡ self.entry.pending }
+    {
+        (self.found, self.met, self.pending)
     }
 
     /// The siphons that were met.

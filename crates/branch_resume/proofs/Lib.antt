@@ -1,0 +1,11 @@
+mod Places
+mod PlaceTexts
+mod Words
+mod ClassLines
+mod TokenLines
+mod Runs
+mod Whole
+mod Resuming
+mod Apart
+mod Fronts
+mod Unique

@@ -1,0 +1,29 @@
+ghost use Rattle.branch_resume.specs.Laws.{CutsArePartings, ListsAreOneSearch, OneReading, TokensAreReadBack, TreesAreOneSearch};
+
+/// Bytes stand for one list of pending classes of a net, or have one malformed line, or one rejected line, and only
+/// one of these.
+pub fn one_reading()
+    ensures { OneReading }
+{}
+
+/// The token of pending classes, with any bytes behind it, is read as these classes.
+pub fn tokens_are_read_back()
+    ensures { TokensAreReadBack }
+{}
+
+/// Runs, each from the classes that the one before left pending, from the class of all siphons to no class, find
+/// together the minimal siphons, each once, and meet the grown ones, each once. With the same `leaves` in each, at most as many
+/// of them leave a class pending as there are grown siphons, divided by `leaves`.
+pub fn lists_of_runs_are_one_search()
+    ensures { ListsAreOneSearch }
+{}
+
+/// The same of the runs of a tree, where the classes that a run leaves pending are parted among several next runs.
+pub fn trees_of_runs_are_one_search()
+    ensures { TreesAreOneSearch }
+{}
+
+/// The pending classes of a token may be cut between any two lines.
+pub fn cut_classes_are_parted()
+    ensures { CutsArePartings }
+{}
