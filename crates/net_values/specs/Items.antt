@@ -1,7 +1,13 @@
--- Words on the items of a net.
+-- Words on the items of a net, and of several nets.
 use Rattle.std.specs.Prelude.{ℕ, List, Bool, true, false, Some}
+use Rattle.std.specs.List.{flat_map}
+use Rattle.net_values.specs.declared.document.NetTree.{NetTree}
 use Rattle.net_values.specs.declared.document.Item.{Item}
 use Rattle.net_values.specs.declared.document.Item.TheVariants.{Page, Place, Transition, RefPlace, RefTransition, Arc}
+
+-- the items of all nets, one net after the other
+abbrev pub all_items : List NetTree → List Item
+all_items nets = flat_map (λ net. net.items) nets
 
 -- the kinds of elements that are counted
 abbrev pub is_page : Item → Bool

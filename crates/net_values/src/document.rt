@@ -1,11 +1,14 @@
 use crate::list::List;
 use crate::text::Text;
 
-/// A document: the one net that it holds.
+/// A document: its nets in the order in which they are written.
 #[derive(Drop)]
 pub struct Document {
-    pub net: NetTree,
+    pub nets: Nets,
 }
+
+/// The nets of a document.
+pub type Nets = List<NetTree>;
 
 /// A net as it is written: pages occur flat among its items.
 #[derive(Drop)]

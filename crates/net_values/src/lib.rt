@@ -28,13 +28,13 @@ pub use column::WeightedPlace;
 pub use copy_list::CopyList;
 pub use decimal::read_decimal;
 pub use document::{
-    ArcNode, Document, Item, Items, NetTree, PageNode, PlaceNode, RefNode, TransitionNode,
+    ArcNode, Document, Item, Items, NetTree, Nets, PageNode, PlaceNode, RefNode, TransitionNode,
 };
 pub use flat_net::FlatNet;
 pub use laws::strictly_ascending_lists_are_one;
 pub use limits::{
-    MAX_ARCS, MAX_ENTRIES, MAX_ID_BYTES, MAX_INPUT_BYTES, MAX_NAME_BYTES, MAX_OPEN_ELEMENTS,
-    MAX_PAGES, MAX_PLACES, MAX_REFERENCES, MAX_TOKEN_BYTES, MAX_TRANSITIONS,
+    MAX_ARCS, MAX_ENTRIES, MAX_ID_BYTES, MAX_INPUT_BYTES, MAX_NAME_BYTES, MAX_NETS,
+    MAX_OPEN_ELEMENTS, MAX_PAGES, MAX_PLACES, MAX_REFERENCES, MAX_TOKEN_BYTES, MAX_TRANSITIONS,
 };
 pub use list::List;
 pub use marking::Marking;

@@ -13,6 +13,9 @@ pub const MAX_NAME_BYTES: usize = 65_536;
 /// The most elements that may be open at once.
 pub const MAX_OPEN_ELEMENTS: usize = 128;
 
+/// The most nets of a document.
+pub const MAX_NETS: usize = 64;
+
 /// The most pages of a document.
 pub const MAX_PAGES: usize = 1_024;
 

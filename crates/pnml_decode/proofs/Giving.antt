@@ -1,6 +1,7 @@
 -- Adding to one of the lists of a content adds a content that has nothing else: the other lists get nothing
 -- more, as where nothing at all is added.
 use Rattle.std.proofs.Common.{◌≡◌, ℕ, ◌++◌, List, [], ◌∷◌, Option, sym, ap, ◌∙◌, append_assoc}
+use Rattle.net_values.specs.declared.document.Document.{Document}
 use Rattle.net_values.specs.declared.document.NetTree.{NetTree}
 use Rattle.net_values.specs.declared.document.Item.{Item}
 use Rattle.net_values.specs.declared.document.Item.TheVariants.{PageEnd}
@@ -9,6 +10,9 @@ use Rattle.pnml_grammar.proofs.ContentLaws.{then_nothing}
 
 pub gave_nothing : (a : Content) → a ≡ (a then nothing)
 gave_nothing a = sym (then_nothing a)
+
+pub gave_documents : (a : Content) (xs : List Document) → record a { documents = a.documents ++ xs } ≡ (a then record nothing { documents = xs })
+gave_documents a xs = λ i. record (gave_nothing a i) { documents = a.documents ++ xs }
 
 pub gave_nets : (a : Content) (xs : List NetTree) → record a { nets = a.nets ++ xs } ≡ (a then record nothing { nets = xs })
 gave_nets a xs = λ i. record (gave_nothing a i) { nets = a.nets ++ xs }

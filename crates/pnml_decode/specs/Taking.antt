@@ -4,12 +4,13 @@ use Rattle.std.specs.Prelude.{◌≡◌, Bool, false, not, ◌&&◌, List, ◌�
 use Rattle.pnml_grammar.specs.declared.element.Context.TheVariants as contexts
 use Rattle.pnml_grammar.specs.declared.element.ElementKind.{ElementKind}
 use Rattle.pnml_grammar.specs.declared.reason.Reason.{Reason}
-use Rattle.pnml_grammar.specs.declared.reason.Reason.TheVariants.{BadNumber, Misplaced, TooDeep}
+use Rattle.pnml_grammar.specs.declared.reason.Reason.TheVariants.{BadNumber, Misplaced, TooDeep, TooMany}
+use Rattle.pnml_grammar.specs.declared.reason.Counted.TheVariants.{Nets}
 use Rattle.pnml_grammar.specs.declared.token.Token.{Token}
 use Rattle.pnml_grammar.specs.Contents.{Content as Given}
 use Rattle.pnml_grammar.specs.Elements.{may_hold}
 use Rattle.pnml_grammar.specs.OpenElements.{State}
-use Rattle.pnml_grammar.specs.Reasons.{Row, first_row, count_rows, is_number_text, is_second, is_pnml, is_full}
+use Rattle.pnml_grammar.specs.Reasons.{Row, first_row, count_rows, is_number_text, is_second, is_pnml, is_full, has_all_nets}
 use Rattle.pnml_grammar.specs.Machine.{reason_of, next}
 use Rattle.pnml_decode.specs.declared.open.Open.{Open}
 use Rattle.pnml_decode.specs.declared.reader.Reader.{Reader}
@@ -45,6 +46,7 @@ place_rows state empty element =
     ∷ (is_second state.top.context state.top.content element, Misplaced)
     ∷ (empty && is_pnml element, Misplaced)
     ∷ (is_full state, TooDeep)
+    ∷ (has_all_nets state.top.content element, TooMany Nets)
     ∷ count_rows state.counts element
 
 -- the innermost open element is skipped, and one more may be open: an empty tag is taken and changes nothing

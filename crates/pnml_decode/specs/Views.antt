@@ -11,6 +11,7 @@ use Rattle.pnml_decode.specs.declared.reader.Reader.{Reader}
 
 abbrev pub given : Content → Given
 given c = record {
+  documents = c.documents;
   nets = c.nets;
   items = c.items;
   names = c.names;

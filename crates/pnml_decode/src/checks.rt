@@ -11,7 +11,7 @@ use crate::counts::Counts;
 use crate::elements::{context_of_kind, is_number_text, is_pnml, may_hold};
 use crate::reader::Reader;
 use net_values::{MAX_OPEN_ELEMENTS, Text};
-use pnml_grammar::{Attribute, Context, ElementKind, Reason};
+use pnml_grammar::{Attribute, Context, Counted, ElementKind, Reason};
 
 impl Reader {
     /// What the children of a start tag, or an empty one, are in, and the counts with the tag; or the first
@@ -83,7 +83,13 @@ impl Reader {
         {
             return Err(Reason::Misplaced);
         }
-        self.check_depth()
+        if self.is_full() {
+            Err(Reason::TooDeep)
+        } else if self.top.content.has_all_nets(element) {
+            Err(Reason::TooMany(Counted::Nets))
+        } else {
+            Ok(())
+        }
     }
 
     fn check_depth(&self) -> Result<(), Reason>

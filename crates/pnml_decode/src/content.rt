@@ -1,19 +1,20 @@
 ghost use Rattle.std.specs.Prelude.{◌≡◌, ◌∷◌, ◌++◌, [], OnOk};
 ghost use Rattle.net_values.specs.declared.document.Item.TheVariants.{Page, PageEnd};
 ghost use Rattle.pnml_grammar.specs.Contents.{nothing, one_item};
-ghost use Rattle.pnml_grammar.specs.Reasons.{has_some, is_second};
+ghost use Rattle.pnml_grammar.specs.Reasons.{has_some, is_second, has_all_nets};
 ghost use Rattle.pnml_decode.specs.Views.{given, Gains};
 
-use net_values::{Item, Items, List, NetTree, NoMemory, PageNode, Text};
+use net_values::{Document, Item, Items, List, MAX_NETS, NetTree, Nets, NoMemory, PageNode, Text};
 use pnml_grammar::{Context, ElementKind};
 use std::alloc::Global;
 
-/// What the whole children of an open element have given so far: nets; the items of a net; names
-/// and numbers, each with a value where it has a text; the texts of a name; the bytes of such a text
-/// so far; and the numbers of a number's text.
+/// What the whole children of an open element have given so far: the documents of roots; nets; the
+/// items of a net; names and numbers, each with a value where it has a text; the texts of a name; the
+/// bytes of such a text so far; and the numbers of a number's text.
 #[derive(Drop)]
 pub(crate) struct Content {
-    pub(crate) nets: List<NetTree>,
+    pub(crate) documents: List<Document>,
+    pub(crate) nets: Nets,
     pub(crate) items: Items,
     pub(crate) names: List<Option<Text>>,
     pub(crate) numbers: List<Option<u64>>,
@@ -28,7 +29,8 @@ impl Content {
         ensures { given result ≡ nothing }
     {
         Content {
-            nets: List::new(alloc),
+            documents: List::new(alloc),
+            nets: Nets::new(alloc),
             items: Items::new(alloc),
             names: List::new(alloc),
             numbers: List::new(alloc),
@@ -38,13 +40,12 @@ impl Content {
         }
     }
 
-    /// Whether an element of the kind would be the second net, name, number or text, or the second
-    /// root.
+    /// Whether an element of the kind would be the second root, name, number or text.
     pub(crate) fn has(&self, context: Context, element: ElementKind) -> bool
         ensures { result ≡ is_second context (given self.now) element }
     {
         match element {
-            ElementKind::Pnml | ElementKind::Net => has_some(&self.nets),
+            ElementKind::Pnml => has_some(&self.documents),
             ElementKind::Name => has_some(&self.names),
             ElementKind::InitialMarking | ElementKind::Inscription => has_some(&self.numbers),
             ElementKind::Text if context == Context::Name => has_some(&self.texts),
@@ -53,11 +54,21 @@ impl Content {
         }
     }
 
-    #[tactic(auto, using(crate::proofs::Giving::gave_nets))]
-    pub(crate) fn give_nets(&mut self, nets: List<NetTree>) -> Result<(), NoMemory>
-        ensures { OnOk result (Gains self.old self.new (record nothing { nets = nets })) }
+    /// Whether an element of the kind would be a net more than a document may have.
+    pub(crate) fn has_all_nets(&self, element: ElementKind) -> bool
+        ensures { result ≡ has_all_nets (given self.now) element }
     {
-        self.nets.append(nets)
+        match element {
+            ElementKind::Net => MAX_NETS <= self.nets.len(),
+            _ => false,
+        }
+    }
+
+    #[tactic(auto, using(crate::proofs::Giving::gave_documents))]
+    pub(crate) fn give_document(&mut self, document: Document) -> Result<(), NoMemory>
+        ensures { OnOk result (Gains self.old self.new (record nothing { documents = document ∷ [] })) }
+    {
+        self.documents.push(document)
     }
 
     #[tactic(auto, using(crate::proofs::Giving::gave_nets))]

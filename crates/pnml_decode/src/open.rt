@@ -10,7 +10,7 @@ use crate::content::{Content, has_some};
 use crate::nodes;
 use crate::number::{is_white, number_in};
 use crate::reader_fault::ReaderFault;
-use net_values::{Item, MAX_NAME_BYTES, NoMemory, Text};
+use net_values::{Document, Item, MAX_NAME_BYTES, NoMemory, Text};
 use pnml_grammar::{Attributes, Context, Counted, Reason};
 use std::alloc::Global;
 
@@ -117,7 +117,7 @@ fn give(alloc: Global, outer: &mut Content, closed: Open) -> Result<(), NoMemory
     } = closed;
     match context {
         Context::Document | Context::Skipped => Ok(()),
-        Context::Pnml => outer.give_nets(content.nets),
+        Context::Pnml => outer.give_document(Document { nets: content.nets }),
         Context::Net => outer.give_net(nodes::net(alloc, &attributes, content)?),
         Context::Page => {
             let Content { names, items, .. } = content;

@@ -8,7 +8,7 @@ use crate::content::Content;
 use crate::counts::Counts;
 use crate::open::Open;
 use crate::reader_fault::ReaderFault;
-use net_values::{Document, List, NetTree, NoMemory, Text};
+use net_values::{Document, List, NoMemory, Text};
 use pnml_grammar::{Attributes, Reason, Token};
 use std::alloc::Global;
 
@@ -57,7 +57,7 @@ impl Reader {
         let Open { content, .. } = top;
         match under.pop() {
             Some(_) => None,
-            None => the_one(content.nets),
+            None => the_one(content.documents),
         }
     }
 
@@ -126,15 +126,12 @@ impl Reader {
     }
 }
 
-/// The document of one net.
-fn the_one(nets: List<NetTree>) -> Option<Document>
-    ensures { result ≡ the_one nets }
+/// The one document that there is.
+fn the_one(documents: List<Document>) -> Option<Document>
+    ensures { result ≡ the_one documents }
 {
-    if nets.len() == 1 {
-        match nets.into_first() {
-            Some(net) => Some(Document { net }),
-            None => None,
-        }
+    if documents.len() == 1 {
+        documents.into_first()
     } else {
         None
     }

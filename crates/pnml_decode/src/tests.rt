@@ -1,6 +1,7 @@
 //! Where a document is refused and why, row by row, and the limits from both sides.
 mod faulty;
 mod limits;
+mod nets;
 mod whole;
 
 use crate::{DocFault, Reason, decode};
@@ -23,6 +24,9 @@ const ARC: &[u8] =
 
 const MARKING: &[u8] =
     b"<pnml xmlns='http://www.pnml.org/version-2009/grammar/pnml'><net id='n' type='http://www.pnml.org/version-2009/grammar/ptnet'><place id='p'><initialMarking><text>";
+
+/// The end of a net and the front of the next one.
+const NEXT_NET: &[u8] = b"</net><net id='m' type='http://www.pnml.org/version-2009/grammar/ptnet'>";
 
 /// The end of a document.
 const CLOSING: &[u8] = b"</net></pnml>";

@@ -22,7 +22,7 @@ use Rattle.pnml_grammar.specs.Contents.{gives, Content, nothing, one_item, first
 use Rattle.pnml_grammar.specs.Counts.{Counts, ◌plus◌, counts_of_kind, IsWithin}
 use Rattle.pnml_grammar.specs.Valued.{IsNameIfAny, HasValuesInRange, name_height, item_height}
 use Rattle.pnml_grammar.specs.OpenElements.{Frame, State}
-use Rattle.pnml_grammar.specs.Reasons.{is_second, is_number_text, is_pnml}
+use Rattle.pnml_grammar.specs.Reasons.{is_second, has_all_nets, is_number_text, is_pnml}
 use Rattle.pnml_grammar.specs.Machine.{receive}
 use Rattle.pnml_grammar.proofs.CanonTokens.{element_tokens, id_of, ref_of, source_of, target_of, name_tokens, marking_tokens, weight_tokens, item_tokens}
 use Rattle.pnml_grammar.proofs.MachineRuns.{IsTaken, Leads, leads_on, leads_token}
@@ -69,6 +69,10 @@ node_first elements.ReferencePlace context content is = refl
 node_first elements.ReferenceTransition context content is = refl
 node_first elements.Arc context content is = refl
 node_first _ context content is = absurd cc
+
+node_space : (element : ElementKind) (content : Content) → is_node_or_page element ≡ true → has_all_nets content element ≡ false
+node_space elements.Net content is = absurd cc
+node_space _ content is = refl
 
 holder_reads : (context : Context) → IsHolder context → is_read context ≡ true
 holder_reads contexts.Net holds = refl
@@ -138,6 +142,7 @@ module _ (top : Frame) (under : List Frame) (counts : Counts) (holds : IsHolder 
     held = holder_held top.context element holds item;
     first = node_first element top.context top.content item;
     room = room;
+    space = node_space element top.content item;
     counted = counted_room element counts within;
   }
 

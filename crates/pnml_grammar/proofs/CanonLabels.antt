@@ -121,13 +121,13 @@ text_free : (context : Context) (own : List ℕ) (under : List Frame) (counts : 
     → IsFree (frame context own [] nothing) under counts (codes "text") elements.Text
 unfolding element_named element_names element_kinds
 text_free context own under counts read held room =
-    record { read = read; named = refl; held = held; first = second_text context; room = room; counted = refl }
+    record { read = read; named = refl; held = held; first = second_text context; room = room; space = refl; counted = refl }
 
 name_free : (context : Context) (own : List ℕ) (attributes : List Attribute) (under : List Frame) (counts : Counts) → is_read context ≡ true → may_hold context elements.Name ≡ true → length under < MAX_OPEN_ELEMENTS
     → IsFree (frame context own attributes nothing) under counts (codes "name") elements.Name
 unfolding element_named element_names element_kinds
 name_free context own attributes under counts read held room =
-    record { read = read; named = refl; held = held; first = second_name context; room = room; counted = refl }
+    record { read = read; named = refl; held = held; first = second_name context; room = room; space = refl; counted = refl }
 
 -- a name, the first child of its element
 pub name_leads : (context : Context) (own : List ℕ) (attributes : List Attribute) (under : List Frame) (counts : Counts) (name : Option (List ℕ))
@@ -184,12 +184,12 @@ with_number name number = named name then record nothing { numbers = Some number
 marking_free : (own : List ℕ) (attributes : List Attribute) (name : Option (List ℕ)) (under : List Frame) (counts : Counts) → length under < MAX_OPEN_ELEMENTS
     → IsFree (frame contexts.Place own attributes (named name)) under counts (codes "initialMarking") elements.InitialMarking
 unfolding element_named element_names element_kinds
-marking_free own attributes name under counts room = record { read = refl; named = refl; held = refl; first = refl; room = room; counted = refl }
+marking_free own attributes name under counts room = record { read = refl; named = refl; held = refl; first = refl; room = room; space = refl; counted = refl }
 
 weight_free : (own : List ℕ) (attributes : List Attribute) (name : Option (List ℕ)) (under : List Frame) (counts : Counts) → length under < MAX_OPEN_ELEMENTS
     → IsFree (frame contexts.Arc own attributes (named name)) under counts (codes "inscription") elements.Inscription
 unfolding element_named element_names element_kinds
-weight_free own attributes name under counts room = record { read = refl; named = refl; held = refl; first = refl; room = room; counted = refl }
+weight_free own attributes name under counts room = record { read = refl; named = refl; held = refl; first = refl; room = room; space = refl; counted = refl }
 
 -- a marking and a weight, after the name
 abbrev pub numbered : Bool → Option (List ℕ) → ℕ → Content

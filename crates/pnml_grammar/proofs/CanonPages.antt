@@ -6,6 +6,7 @@ use Rattle.std.specs.List.{AllByRecursion}
 use Rattle.std.proofs.lemmas.List.Sums.{sum_by-cons}
 use Rattle.net_values.specs.declared.limits.TheConstants.{MAX_OPEN_ELEMENTS}
 use Rattle.net_values.specs.Items.{is_page, is_place, is_transition, is_arc, is_reference}
+use Rattle.net_values.specs.declared.document.NetTree.{NetTree}
 use Rattle.net_values.specs.declared.document.PageNode.{PageNode}
 use Rattle.net_values.specs.declared.document.Item.{Item}
 use Rattle.net_values.specs.declared.document.Item.TheVariants.{Page, PageEnd}
@@ -107,14 +108,15 @@ pub record OpenPage : Type 0 where
 abbrev pub page_frame : OpenPage → Frame
 page_frame p = frame contexts.Page (codes "page") (id_of p.page.id ∷ []) (record (named p.page.name) { items = p.items })
 
-abbrev pub root_frame : Frame
-root_frame = frame contexts.Pnml (codes "pnml") (namespace_of ∷ []) nothing
+-- the root after these nets
+abbrev pub root_frame : List NetTree → Frame
+root_frame nets = frame contexts.Pnml (codes "pnml") (namespace_of ∷ []) (record nothing { nets = nets })
 
 -- what is around a net
-abbrev pub around : List Frame
-around = root_frame ∷ outermost ∷ []
+abbrev pub around : List NetTree → List Frame
+around nets = root_frame nets ∷ outermost ∷ []
 
-module _ (id : List ℕ) (name : Option (List ℕ)) where
+module _ (before : List NetTree) (id : List ℕ) (name : Option (List ℕ)) where
   abbrev pub net_frame : List Item → Frame
   net_frame items = frame contexts.Net (codes "net") (id_of id ∷ type_of ∷ []) (record (named name) { items = items })
 
@@ -124,7 +126,7 @@ module _ (id : List ℕ) (name : Option (List ℕ)) where
   top_of items (p ∷ ps) = page_frame p
 
   abbrev pub under_of : List Item → List OpenPage → List Frame
-  under_of items [] = around
+  under_of items [] = around before
   under_of items (p ∷ ps) = top_of items ps ∷ under_of items ps
 
   abbrev pub state_of : List Item → List OpenPage → Counts → State
@@ -164,7 +166,7 @@ module _ (id : List ℕ) (name : Option (List ℕ)) where
       → ◌≡◌ {A = State} (record { top = receive (record nothing { items = more }) (top_of items ps); under = under_of items ps; counts = counts }) (state_of (net_with items ps more) (pages_with ps more) counts)
   state_with items [] more counts =
       let names = append-nil (names_of name) in
-      λ i. record { top = frame contexts.Net (codes "net") (id_of id ∷ type_of ∷ []) (record nothing { names = names i; items = items ++ more }); under = around; counts = counts }
+      λ i. record { top = frame contexts.Net (codes "net") (id_of id ∷ type_of ∷ []) (record nothing { names = names i; items = items ++ more }); under = around before; counts = counts }
   state_with items (p ∷ ps) more counts =
       let names = append-nil (names_of p.page.name) in
       λ i. record { top = frame contexts.Page (codes "page") (id_of p.page.id ∷ []) (record nothing { names = names i; items = p.items ++ more }); under = under_of items (p ∷ ps); counts = counts }

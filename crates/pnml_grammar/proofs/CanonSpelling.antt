@@ -1,4 +1,4 @@
--- The tokens of a valued document are in its canonical text: item by item, then the net, and around it the
+-- The tokens of a valued document are in its canonical text: item by item, net by net, and around them the
 -- declaration, the root and the line feed after it.
 use Rattle.std.proofs.Common.{◌≡◌, ◌≢◌, ℕ, ◌<◌, ◌^◌, Bool, true, false, cond, List, [], ◌∷◌, ◌++◌, length, get_or, length-append, refl, sym, ap, subst, ◌∙◌, arith, append_assoc, append-nil, inl, inr, Option, Some, None}
 use Rattle.std.specs.Prelude.{◌==◌, codes, decimal}
@@ -16,11 +16,11 @@ use Rattle.pnml_grammar.specs.Attributes.{Written, written, IsWritten, is_value_
 use Rattle.pnml_grammar.specs.Declarations.{IsDeclaration}
 use Rattle.pnml_grammar.specs.Tokens.{IsCharacters, TokensOf, first_offset}
 use Rattle.pnml_grammar.specs.Values.Denotes.{nothing, byte}
-use Rattle.pnml_grammar.specs.Canon.{escaped, attribute, start_tag, end_tag, element, label, name_text, marking_text, weight_text, id_attribute, item_text, items_text, net_type, namespace, net_text, declaration, canon}
-use Rattle.pnml_grammar.specs.Valued.{Valued, IsNameIfAny, HasValuesInRange}
+use Rattle.pnml_grammar.specs.Canon.{escaped, attribute, start_tag, end_tag, element, label, name_text, marking_text, weight_text, id_attribute, item_text, items_text, net_type, namespace, net_text, nets_text, declaration, canon}
+use Rattle.pnml_grammar.specs.Valued.{Valued, IsValuedNet, IsNameIfAny, HasValuesInRange}
 use Rattle.pnml_grammar.proofs.EscapeLaws.{printed_text}
 use Rattle.pnml_grammar.proofs.NumeralLaws.{decimal_escaped, decimal_legal, decimal_short}
-use Rattle.pnml_grammar.proofs.CanonTokens.{element_tokens, label_tokens, name_tokens, marking_tokens, weight_tokens, id_of, ref_of, source_of, target_of, type_of, namespace_of, item_tokens, items_tokens, net_tokens, canon_tokens}
+use Rattle.pnml_grammar.proofs.CanonTokens.{element_tokens, label_tokens, name_tokens, marking_tokens, weight_tokens, id_of, ref_of, source_of, target_of, type_of, namespace_of, item_tokens, items_tokens, net_tokens, nets_tokens, canon_tokens}
 use Rattle.pnml_grammar.proofs.CanonPieces.{Follow, follow_join, follow_whole, Writes, writes_join, writes_nothing, writes_piece, IsWord, word, written_attribute, attributes_text, IsPlainAttribute, ArePlain, start_writes, end_writes}
 use Rattle.pnml_grammar.proofs.CanonElements.{element_writes, label_writes}
 
@@ -174,6 +174,11 @@ net_writes net id name items =
     whole (codes "net") _ (id_of net.id ∷ type_of ∷ []) _ _ (two (id_of net.id) type_of) (word (codes "net") refl) (id_and_type net.id id)
     (writes_join (name_text net.name) (name_tokens net.name) (items_text net.items) (items_tokens net.items) (name_writes net.name name) (items_writes net.items items))
 
+nets_write : (nets : List NetTree) → AllByRecursion IsValuedNet nets → Writes (nets_text nets) (nets_tokens nets)
+nets_write [] each = writes_nothing
+nets_write (net ∷ nets) each =
+    writes_join (net_text net) (net_tokens net) (nets_text nets) (nets_tokens nets) (net_writes net each.0.id each.0.name each.0.items) (nets_write nets each.1)
+
 -- the parts of a setting of the declaration
 abbrev declared : List ℕ → List ℕ → Written
 declared name body = record { gap = codes " "; name = name; before = []; after = []; quote = 34; body = body }
@@ -218,15 +223,15 @@ four a b c d xs ys zs ws first second third fourth =
     writes_join (a ++ b ++ c) (xs ++ ys ++ zs) d ws (writes_join (a ++ b) (xs ++ ys) c zs (writes_join a xs b ys first second) third) fourth
 
 document_writes : (document : Document) → Valued document
-    → Writes (declaration ++ start_tag (codes "pnml") (attribute (codes "xmlns") namespace) ++ net_text document.net ++ end_tag (codes "pnml"))
-    (tokens.Declaration ∷ [] ++ tokens.Start (codes "pnml") (namespace_of ∷ []) ∷ [] ++ net_tokens document.net ++ tokens.End (codes "pnml") ∷ [])
+    → Writes (declaration ++ start_tag (codes "pnml") (attribute (codes "xmlns") namespace) ++ nets_text document.nets ++ end_tag (codes "pnml"))
+    (tokens.Declaration ∷ [] ++ tokens.Start (codes "pnml") (namespace_of ∷ []) ∷ [] ++ nets_tokens document.nets ++ tokens.End (codes "pnml") ∷ [])
 document_writes document valued =
     let root = word (codes "pnml") refl in
-    four declaration (start_tag (codes "pnml") (attribute (codes "xmlns") namespace)) (net_text document.net) (end_tag (codes "pnml"))
-    (tokens.Declaration ∷ []) (tokens.Start (codes "pnml") (namespace_of ∷ []) ∷ []) (net_tokens document.net) (tokens.End (codes "pnml") ∷ [])
+    four declaration (start_tag (codes "pnml") (attribute (codes "xmlns") namespace)) (nets_text document.nets) (end_tag (codes "pnml"))
+    (tokens.Declaration ∷ []) (tokens.Start (codes "pnml") (namespace_of ∷ []) ∷ []) (nets_tokens document.nets) (tokens.End (codes "pnml") ∷ [])
     declaration_writes
     (opened (codes "pnml") (attribute (codes "xmlns") namespace) (namespace_of ∷ []) (one namespace_of) root just_namespace)
-    (net_writes document.net valued.id valued.name valued.items)
+    (nets_write document.nets valued.nets)
     (end_writes (codes "pnml") root)
 
 -- and the line feed after it
@@ -236,8 +241,8 @@ then_line_feed text list writes = follow_join list (tokens.Characters (10 ∷ []
 document_follows : (document : Document) → Valued document → Follow (canon document) (canon_tokens document) []
 unfolding canon canon_tokens
 document_follows document valued =
-    then_line_feed (declaration ++ start_tag (codes "pnml") (attribute (codes "xmlns") namespace) ++ net_text document.net ++ end_tag (codes "pnml"))
-    (tokens.Declaration ∷ [] ++ tokens.Start (codes "pnml") (namespace_of ∷ []) ∷ [] ++ net_tokens document.net ++ tokens.End (codes "pnml") ∷ [])
+    then_line_feed (declaration ++ start_tag (codes "pnml") (attribute (codes "xmlns") namespace) ++ nets_text document.nets ++ end_tag (codes "pnml"))
+    (tokens.Declaration ∷ [] ++ tokens.Start (codes "pnml") (namespace_of ∷ []) ∷ [] ++ nets_tokens document.nets ++ tokens.End (codes "pnml") ∷ [])
     (document_writes document valued)
 
 no_mark : (document : Document) → first_offset (canon document) ≡ 0

@@ -21,7 +21,7 @@ use Rattle.pnml_grammar.specs.Elements.{element_named, attribute_names, attribut
 use Rattle.pnml_grammar.specs.Contents.{Content, nothing, gives}
 use Rattle.pnml_grammar.specs.Counts.{Counts, ◌plus◌, counts_of_kind, counts_if_any, tag_counts, IsWithin}
 use Rattle.pnml_grammar.specs.OpenElements.{Frame, State}
-use Rattle.pnml_grammar.specs.Reasons.{first_row, is_second, is_pnml, is_number_text, count_rows, is_full, tag_rows, open_rows_in}
+use Rattle.pnml_grammar.specs.Reasons.{first_row, is_second, has_all_nets, is_pnml, is_number_text, count_rows, is_full, tag_rows, open_rows_in}
 use Rattle.pnml_grammar.specs.Machine.{receive, open_element}
 use Rattle.pnml_grammar.proofs.EscapeLaws.{high_bytes}
 use Rattle.pnml_grammar.proofs.CanonTokens.{element_tokens, id_of, ref_of, source_of, target_of, type_of, namespace_of}
@@ -134,6 +134,7 @@ pub record IsFree (top : Frame) (under : List Frame) (counts : Counts) (name : L
   pub held : may_hold top.context element ≡ true
   pub first : is_second top.context top.content element ≡ false
   pub room : length under < MAX_OPEN_ELEMENTS
+  pub space : has_all_nets top.content element ≡ false
   pub counted : first_row (count_rows counts element) ≡ None
 
 -- limits leave room for what is counted
@@ -148,8 +149,8 @@ counted_room _ counts within = refl
 
 rows_none : (state : State) (empty : Bool) (attributes : List Attribute) (element : ElementKind) → has_namespace element attributes ≡ true → has_type element attributes ≡ true → has_attributes element attributes ≡ true
     → (empty && is_number_text state.top.context element) ≡ false → may_hold state.top.context element ≡ true → is_second state.top.context state.top.content element ≡ false → (empty && is_pnml element) ≡ false
-    → is_full state ≡ false → first_row (count_rows state.counts element) ≡ None → first_row (tag_rows state empty attributes (Some element)) ≡ None
-rows_none state empty attributes element e0 e1 e2 e3 e4 e5 e6 e7 e8 = rw (e0, e1, e2, e3, e4, e5, e6, e7) e8
+    → is_full state ≡ false → has_all_nets state.top.content element ≡ false → first_row (count_rows state.counts element) ≡ None → first_row (tag_rows state empty attributes (Some element)) ≡ None
+rows_none state empty attributes element e0 e1 e2 e3 e4 e5 e6 e7 e8 e9 = rw (e0, e1, e2, e3, e4, e5, e6, e7, e8) e9
 
 not_full : (state : State) → length state.under < MAX_OPEN_ELEMENTS → is_full state ≡ false
 unfolding is_full
@@ -169,7 +170,7 @@ module _ (top : Frame) (under : List Frame) (counts : Counts) (name : List ℕ) 
       → first_row (open_rows_in top.context here empty name attributes) ≡ None
   none_applies empty text root =
       ap first_row (open_read top.context here empty name attributes free.read ∙ ap (tag_rows here empty attributes) free.named)
-      ∙ rows_none here empty attributes element has.namespace has.type has.fitting text free.held free.first root (not_full here free.room) free.counted
+      ∙ rows_none here empty attributes element has.namespace has.type has.fitting text free.held free.first root (not_full here free.room) free.space free.counted
 
   pub start_taken : IsTaken here (tokens.Start name attributes)
   start_taken = none_applies false refl refl

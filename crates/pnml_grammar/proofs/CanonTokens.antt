@@ -1,6 +1,7 @@
 -- The tokens of the canonical text, by the same recursion on the items as the text itself.
 use Rattle.std.proofs.Common.{ℕ, List, [], ◌∷◌, ◌++◌, Option, Some, None}
 use Rattle.std.specs.Prelude.{◌==◌, if◌then◌else◌, codes, decimal}
+use Rattle.std.specs.List.{flat_map}
 use Rattle.net_values.specs.declared.document.Document.{Document}
 use Rattle.net_values.specs.declared.document.NetTree.{NetTree}
 use Rattle.net_values.specs.declared.document.Item.{Item}
@@ -78,8 +79,11 @@ unfoldable pub net_tokens : NetTree → List Token
 net_tokens net =
     element_tokens (codes "net") (id_of net.id ∷ type_of ∷ []) (name_tokens net.name ++ items_tokens net.items)
 
+abbrev pub nets_tokens : List NetTree → List Token
+nets_tokens nets = flat_map net_tokens nets
+
 -- the line feed after the root is a text of its own
 unfoldable pub canon_tokens : Document → List Token
 canon_tokens document =
-    tokens.Declaration ∷ [] ++ tokens.Start (codes "pnml") (namespace_of ∷ []) ∷ [] ++ net_tokens document.net
+    tokens.Declaration ∷ [] ++ tokens.Start (codes "pnml") (namespace_of ∷ []) ∷ [] ++ nets_tokens document.nets
     ++ tokens.End (codes "pnml") ∷ [] ++ tokens.Characters (10 ∷ []) ∷ []

@@ -1,7 +1,7 @@
 -- What children give, one after the other, and how many elements they count: both are associative, with an
 -- empty one on either side. Whether an element has few of each is a matter of lengths only.
 use Rattle.std.proofs.Common.{◌≡◌, ◌+◌, ◌≤◌, ◌++◌, append_assoc, append-nil, length, length-append, arith, add_assoc, add-zero, zero-add}
-use Rattle.net_values.specs.declared.limits.TheConstants.{MAX_NAME_BYTES}
+use Rattle.net_values.specs.declared.limits.TheConstants.{MAX_NAME_BYTES, MAX_NETS}
 use Rattle.pnml_grammar.specs.Contents.{Content, nothing, ◌then◌}
 use Rattle.pnml_grammar.specs.Counts.{Counts, no_counts, ◌plus◌, IsWithin}
 use Rattle.pnml_grammar.specs.Documents.{HasFew}
@@ -10,6 +10,7 @@ use Rattle.pnml_grammar.specs.Documents.{HasFew}
 
 pub then_nothing : (a : Content) → (a then nothing) ≡ a
 then_nothing a = λ i. record {
+  documents = append-nil a.documents i;
   nets = append-nil a.nets i;
   items = append-nil a.items i;
   names = append-nil a.names i;
@@ -21,6 +22,7 @@ then_nothing a = λ i. record {
 
 pub then_assoc : (a b c : Content) → ((a then b) then c) ≡ (a then (b then c))
 then_assoc a b c = λ i. record {
+  documents = append_assoc a.documents b.documents c.documents i;
   nets = append_assoc a.nets b.nets c.nets i;
   items = append_assoc a.items b.items c.items i;
   names = append_assoc a.names b.names c.names i;
@@ -67,7 +69,8 @@ within_front a b within = omega (arith, within)
 
 -- the lengths of both together
 pub record HaveFew (a b : Content) : Type 0 where
-  pub nets : length a.nets + length b.nets ≤ 1
+  pub documents : length a.documents + length b.documents ≤ 1
+  pub nets : length a.nets + length b.nets ≤ MAX_NETS
   pub names : length a.names + length b.names ≤ 1
   pub numbers : length a.numbers + length b.numbers ≤ 1
   pub texts : length a.texts + length b.texts ≤ 1
@@ -76,6 +79,7 @@ pub record HaveFew (a b : Content) : Type 0 where
 
 -- what is given one after the other is as long as both
 record HasLengths (a b : Content) : Type 0 where
+  documents : length (a.documents ++ b.documents) ≡ length a.documents + length b.documents
   nets : length (a.nets ++ b.nets) ≡ length a.nets + length b.nets
   names : length (a.names ++ b.names) ≡ length a.names + length b.names
   numbers : length (a.numbers ++ b.numbers) ≡ length a.numbers + length b.numbers
@@ -85,6 +89,7 @@ record HasLengths (a b : Content) : Type 0 where
 
 lengths : (a b : Content) → HasLengths a b
 lengths a b = record {
+  documents = length-append a.documents b.documents;
   nets = length-append a.nets b.nets;
   names = length-append a.names b.names;
   numbers = length-append a.numbers b.numbers;

@@ -5,7 +5,6 @@ use Rattle.std.specs.List.{AllByRecursion}
 use Rattle.std.proofs.lemmas.Bool.{and_parts}
 use Rattle.net_values.specs.declared.limits.TheConstants.{MAX_OPEN_ELEMENTS}
 use Rattle.net_values.specs.declared.document.Document.{Document}
-use Rattle.net_values.specs.declared.document.NetTree.{NetTree}
 use Rattle.pnml_grammar.specs.declared.element.ElementKind.{ElementKind}
 use Rattle.pnml_grammar.specs.declared.element.ElementKind.TheVariants as elements
 use Rattle.pnml_grammar.specs.declared.element.Context.TheVariants as contexts
@@ -33,17 +32,17 @@ use Rattle.pnml_grammar.proofs.ReadingTrees.{with_more, HasRoom, nodes_run}
 
 -- ---- around the root
 
--- what is around the root gives nets only
-abbrev only_nets : Content → Content
-only_nets content = record nothing { nets = content.nets }
+-- what is around the root gives documents only
+abbrev only_documents : Content → Content
+only_documents content = record nothing { documents = content.documents }
 
 root_gives : (kind : Option ElementKind) (attributes : List Attribute) (content : Content) → IsTrue (may_occur_as contexts.Document kind attributes)
-    → gives (context_if_any contexts.Document kind) attributes content ≡ only_nets (gives (context_if_any contexts.Document kind) attributes content)
+    → gives (context_if_any contexts.Document kind) attributes content ≡ only_documents (gives (context_if_any contexts.Document kind) attributes content)
 root_gives None attributes content occurs = refl
 root_gives (Some elements.Pnml) attributes content occurs = refl
 root_gives (Some kind) attributes content occurs = absurd (true≢false (sym (and_parts _ (may_hold contexts.Document kind) occurs).1))
 
-outside_gives_one : (node : Node) → IsChild contexts.Document node → node_content contexts.Document node ≡ only_nets (node_content contexts.Document node)
+outside_gives_one : (node : Node) → IsChild contexts.Document node → node_content contexts.Document node ≡ only_documents (node_content contexts.Document node)
 outside_gives_one (element name attributes children) child = root_gives (element_named name) attributes _ child.0
 outside_gives_one (empty_element name attributes) child = root_gives (element_named name) attributes nothing child.0
 outside_gives_one comment child = refl
@@ -51,12 +50,12 @@ outside_gives_one instruction child = refl
 outside_gives_one (cdata value) child = refl
 outside_gives_one (characters value) child = refl
 
-outside_gives : (nodes : Nodes) → EachChild contexts.Document nodes → nodes_content contexts.Document nodes ≡ only_nets (nodes_content contexts.Document nodes)
+outside_gives : (nodes : Nodes) → EachChild contexts.Document nodes → nodes_content contexts.Document nodes ≡ only_documents (nodes_content contexts.Document nodes)
 outside_gives none each = refl
 outside_gives (node and nodes) each = ap₂ ◌then◌ (outside_gives_one node each.0) (outside_gives nodes each.1)
 
-few_nets : (nets : List NetTree) (net : NetTree) → nets ≡ net ∷ [] → HasFew (record nothing { nets = nets })
-few_nets nets net one = omega (arith, ap length one)
+few_documents : (documents : List Document) (document : Document) → documents ≡ document ∷ [] → HasFew (record nothing { documents = documents })
+few_documents documents document one = omega (arith, ap length one)
 
 -- ---- the declaration in front
 
@@ -86,7 +85,7 @@ spells_read document list spells =
     let content = nodes_content contexts.Document nodes in
     let room : HasRoom start (nodes_height nodes) content (nodes_counts contexts.Document nodes) = record {
       shallow = omega (arith, spells.shallow);
-      few = subst HasFew (sym (outside_gives nodes spells.each)) (few_nets content.nets document.net spells.one);
+      few = subst HasFew (sym (outside_gives nodes spells.each)) (few_documents content.documents document spells.one);
       counted = omega (arith, spells.counted);
     } in
     read_made list (nodes_tokens nodes) (with_more start content (nodes_counts contexts.Document nodes)) document
@@ -101,9 +100,9 @@ reached_spot list state e = let occurs = reached_occurs list state e in (occurs.
 
 -- ---- what is read to the end is a document
 
-spells_from : (declared : Bool) (nodes : Nodes) (list : List Token) (net : NetTree) → list ≡ opening declared ++ nodes_tokens nodes → IsSound (spot_at declared [] nodes)
-    → AllByRecursion HasLegalTexts list → (nodes_content contexts.Document nodes).nets ≡ net ∷ [] → Spells (record { net = net }) list
-spells_from declared nodes list net list_is sound legal one =
+spells_from : (declared : Bool) (nodes : Nodes) (list : List Token) (document : Document) → list ≡ opening declared ++ nodes_tokens nodes → IsSound (spot_at declared [] nodes)
+    → AllByRecursion HasLegalTexts list → (nodes_content contexts.Document nodes).documents ≡ document ∷ [] → Spells document list
+spells_from declared nodes list document list_is sound legal one =
     let low : nodes_height nodes ≤ MAX_OPEN_ELEMENTS = omega (arith, sound.hold.shallow) in
     let texts = each_back HasLegalTexts (opening declared) (nodes_tokens nodes) (subst (AllByRecursion HasLegalTexts) list_is legal) in
     record {
@@ -114,18 +113,18 @@ spells_from declared nodes list net list_is sound legal one =
       shallow = low;
       counted = sound.counted;
       one = one;
-      valued = valued_of net nodes sound.hold.each low sound.counted texts one;
+      valued = valued_of document nodes sound.hold.each low sound.counted texts one;
     }
 
-the_one_is : (nets : List NetTree) (document : Document) → the_one nets ≡ Some document → nets ≡ document.net ∷ []
+the_one_is : (documents : List Document) (document : Document) → the_one documents ≡ Some document → documents ≡ document ∷ []
 the_one_is [] document e = absurd cc
-the_one_is (net ∷ []) document e = ap (λ (d : Document). d.net ∷ []) (some_is (record { net = net }) document e)
-the_one_is (net ∷ other ∷ nets) document e = absurd cc
+the_one_is (found ∷ []) document e = ap (λ (d : Document). d ∷ []) (some_is found document e)
+the_one_is (found ∷ other ∷ documents) document e = absurd cc
 
 closed_spells : (declared : Bool) (opened : List Opened) (outside : Nodes) (list : List Token) (document : Document) → list ≡ opening declared ++ opened_tokens opened outside
     → IsSound (spot_at declared opened outside) → AllByRecursion HasLegalTexts list → finish (state_of (spot_at declared opened outside)) ≡ Some document → Spells document list
 closed_spells declared [] outside list document list_is sound legal e =
-    spells_from declared outside list document.net list_is sound legal (the_one_is (nodes_content contexts.Document outside).nets document e)
+    spells_from declared outside list document list_is sound legal (the_one_is (nodes_content contexts.Document outside).documents document e)
 closed_spells declared (inner ∷ outer) outside list document list_is sound legal e = absurd cc
 
 -- tokens that are read to the end spell what they give
@@ -170,8 +169,8 @@ reached_begins list state legal e =
     let ends = whole.ends in
     record {
       rest = ends.rest;
-      document = record { net = whole.net };
-      spells = spells_from spot.declared ends.nodes (list ++ ends.rest) whole.net
+      document = whole.document;
+      spells = spells_from spot.declared ends.nodes (list ++ ends.rest) whole.document
           (ended_tokens list (opening spot.declared) (opened_tokens spot.opened spot.outside) ends.rest (nodes_tokens ends.nodes) occurs.after ends.tokens_are)
           ends.sound (each_append HasLegalTexts list ends.rest legal ends.legal) whole.one;
     }

@@ -4,7 +4,7 @@ use Rattle.std.proofs.Common.{◌≡◌, ◌+◌, ◌≤◌, inl, inr, refl, sym
 use Rattle.std.specs.List.{AllByRecursion}
 use Rattle.std.proofs.lemmas.Bool.{cases_Bool}
 use Rattle.net_values.specs.declared.limits.TheConstants.{MAX_OPEN_ELEMENTS}
-use Rattle.net_values.specs.declared.document.NetTree.{NetTree}
+use Rattle.net_values.specs.declared.document.Document.{Document}
 use Rattle.pnml_grammar.specs.declared.element.Context.TheVariants as contexts
 use Rattle.pnml_grammar.specs.declared.token.Token.{Token}
 use Rattle.pnml_grammar.specs.declared.token.Token.TheVariants as tokens
@@ -162,11 +162,11 @@ close_any declared (inner ∷ outer) outside sound = close_all outer inner decla
 
 -- ---- one root occurs
 
--- the tokens and more are those of what is around the root, and one net has occurred
-pub record EndsWithNet (declared : Bool) (list : List Token) : Type 0 where
+-- the tokens and more are those of what is around the root, and one root has occurred
+pub record EndsWithRoot (declared : Bool) (list : List Token) : Type 0 where
   pub ends : Ends declared list
-  pub net : NetTree
-  pub one : (nodes_content contexts.Document ends.nodes).nets ≡ net ∷ []
+  pub document : Document
+  pub one : (nodes_content contexts.Document ends.nodes).documents ≡ document ∷ []
 
 root_taken : (declared : Bool) (nodes : Nodes) → IsSound (spot_at declared [] nodes) → MakesWhole (nodes_content contexts.Document nodes) → Takes (spot_at declared [] nodes) whole_root
 root_taken declared nodes sound whole =
@@ -178,7 +178,7 @@ root_taken declared nodes sound whole =
       counted = subst IsWithin (sym (ap (λ c. state.counts plus c) whole.uncounted ∙ plus_nothing state.counts)) sound.counted;
     }
 
-with_root : (declared : Bool) (list : List Token) (ends : Ends declared list) → (nodes_content contexts.Document ends.nodes).nets ≡ [] → EndsWithNet declared list
+with_root : (declared : Bool) (list : List Token) (ends : Ends declared list) → (nodes_content contexts.Document ends.nodes).documents ≡ [] → EndsWithRoot declared list
 with_root declared list ends lacks =
     let whole = root_makes_whole (nodes_content contexts.Document ends.nodes) ends.sound.hold.few lacks in
     let spot = spot_at declared [] ends.nodes in
@@ -191,19 +191,19 @@ with_root declared list ends lacks =
         sound = with_sound spot whole_root ends.sound (root_taken declared ends.nodes ends.sound whole);
         legal = each_append HasLegalTexts ends.rest (node_tokens whole_root) ends.legal whole.legal;
       };
-      net = whole.net;
-      one = ap (λ c. c.nets) (last_content contexts.Document ends.nodes whole_root) ∙ whole.one;
+      document = whole.document;
+      one = ap (λ c. c.documents) (last_content contexts.Document ends.nodes whole_root) ∙ whole.one;
     }
 
-one_net : (declared : Bool) (list : List Token) (ends : Ends declared list) (nets : List NetTree) → (nodes_content contexts.Document ends.nodes).nets ≡ nets → length nets ≤ 1
-    → EndsWithNet declared list
-one_net declared list ends [] e few = with_root declared list ends e
-one_net declared list ends (net ∷ []) e few = record { ends = ends; net = net; one = e }
-one_net declared list ends (net ∷ other ∷ nets) e few = absurd (omega arith)
+one_root : (declared : Bool) (list : List Token) (ends : Ends declared list) (documents : List Document) → (nodes_content contexts.Document ends.nodes).documents ≡ documents
+    → length documents ≤ 1 → EndsWithRoot declared list
+one_root declared list ends [] e few = with_root declared list ends e
+one_root declared list ends (document ∷ []) e few = record { ends = ends; document = document; one = e }
+one_root declared list ends (document ∷ other ∷ documents) e few = absurd (omega arith)
 
 -- what has begun can be ended
-pub spot_ends : (spot : Spot) → IsSound spot → EndsWithNet spot.declared (opened_tokens spot.opened spot.outside)
+pub spot_ends : (spot : Spot) → IsSound spot → EndsWithRoot spot.declared (opened_tokens spot.opened spot.outside)
 spot_ends spot sound =
     let ends = close_any spot.declared spot.opened spot.outside sound in
-    let nets = (nodes_content contexts.Document ends.nodes).nets in
-    one_net spot.declared (opened_tokens spot.opened spot.outside) ends nets refl ends.sound.hold.few.nets
+    let documents = (nodes_content contexts.Document ends.nodes).documents in
+    one_root spot.declared (opened_tokens spot.opened spot.outside) ends documents refl ends.sound.hold.few.documents

@@ -1,8 +1,9 @@
--- What an element may give: one net, name, number or text to the element around it, and none after another.
--- Whether it is the first is a test on the tag, and tells whether there are few in the end. By cases on what
--- the element is and where it occurs.
-use Rattle.std.proofs.Common.{◌≡◌, ℕ, ◌+◌, ◌≤◌, refl, sym, subst, List, [], ◌∷◌, length, Option, Some, None, Bool, true, false, IsTrue, nat_le, arith, true≢false}
-use Rattle.std.proofs.lemmas.Bool.{and_parts, leb-true, le-leb}
+-- What an element may give: one document, name, number or text to the element around it, and none after another,
+-- and one of a limited number of nets. Whether it may is a test on the tag, and tells whether there are few in the end.
+-- By cases on what the element is and where it occurs.
+use Rattle.std.proofs.Common.{◌≡◌, ℕ, ◌+◌, ◌≤◌, refl, sym, subst, List, [], ◌∷◌, length, Option, Some, None, Bool, true, false, ◌||◌, IsTrue, nat_le, arith, true≢false}
+use Rattle.std.proofs.lemmas.Bool.{and_parts, or_parts, or_from, leb-true, leb-false, le-leb, lt-leb}
+use Rattle.net_values.specs.declared.limits.TheConstants.{MAX_NETS}
 use Rattle.pnml_grammar.specs.declared.element.ElementKind.{ElementKind}
 use Rattle.pnml_grammar.specs.declared.element.ElementKind.TheVariants as elements
 use Rattle.pnml_grammar.specs.declared.element.Context.{Context}
@@ -11,7 +12,7 @@ use Rattle.pnml_grammar.specs.declared.token.Attribute.{Attribute}
 use Rattle.pnml_grammar.specs.Elements.{element_named, context_in, context_if_any, context_of_kind, may_hold, may_occur, may_occur_as}
 use Rattle.pnml_grammar.specs.Contents.{Content, nothing, ◌then◌, gives}
 use Rattle.pnml_grammar.specs.Documents.{HasFew, is_complete}
-use Rattle.pnml_grammar.specs.Reasons.{has_some, is_second}
+use Rattle.pnml_grammar.specs.Reasons.{has_some, is_second, has_all_nets}
 use Rattle.pnml_grammar.proofs.ContentLaws.{then_nothing, few_parts, few_from}
 
 -- ---- lists of one at most
@@ -37,7 +38,7 @@ is_inside _ = true
 -- the element may not follow what the children before have given; in skipped parts every one may
 abbrev pub second_of : Context → Content → Option ElementKind → Bool
 second_of context content None = false
-second_of context content (Some element) = is_second context content element
+second_of context content (Some element) = is_second context content element || has_all_nets content element
 
 abbrev pub second_in : Context → Content → Option ElementKind → Bool
 second_in contexts.Skipped content element = false
@@ -46,9 +47,7 @@ second_in context content element = second_of context content element
 second_none : (element : ElementKind) (context : Context) (content inner : Content) (attributes : List Attribute) → is_inside context ≡ true → IsTrue (may_hold context element)
     → HasFew (content then gives (context_of_kind context element) attributes inner) → IsTrue (is_complete (context_of_kind context element) inner) → is_second context content element ≡ false
 second_none elements.Pnml context content inner attributes inside holds few complete =
-    has_none content.nets (length inner.nets) (few_parts content (gives contexts.Pnml attributes inner) few).nets (leb-true 1 (length inner.nets) complete)
-second_none elements.Net context content inner attributes inside holds few complete =
-    has_none content.nets 1 (few_parts content (gives contexts.Net attributes inner) few).nets (omega arith)
+    has_none content.documents 1 (few_parts content (gives contexts.Pnml attributes inner) few).documents (omega arith)
 second_none elements.Name context content inner attributes inside holds few complete =
     has_none content.names 1 (few_parts content (gives contexts.Name attributes inner) few).names (omega arith)
 second_none elements.InitialMarking context content inner attributes inside holds few complete =
@@ -65,31 +64,37 @@ second_none elements.Text contexts.Skipped content inner attributes inside holds
 second_none elements.Text context content inner attributes inside holds few complete = absurd (true≢false (sym holds))
 second_none element context content inner attributes inside holds few complete = refl
 
+net_fits : (element : ElementKind) (context : Context) (content inner : Content) (attributes : List Attribute) → HasFew (content then gives (context_of_kind context element) attributes inner)
+    → has_all_nets content element ≡ false
+net_fits elements.Net context content inner attributes few =
+    let both = few_parts content (gives contexts.Net attributes inner) few in lt-leb MAX_NETS (length content.nets) (omega (arith, both.nets))
+net_fits element context content inner attributes few = refl
+
 pub few_same : (content : Content) → HasFew content → HasFew (content then nothing)
 few_same content few = subst HasFew (sym (then_nothing content)) few
 
 few_more : (element : ElementKind) (context : Context) (content inner : Content) (attributes : List Attribute) → HasFew content → HasFew inner → is_second context content element ≡ false
-    → HasFew (content then gives (context_of_kind context element) attributes inner)
-few_more elements.Pnml context content inner attributes few own e =
-    let none = none_long content.nets e in few_from content (gives contexts.Pnml attributes inner) (omega arith)
-few_more elements.Net context content inner attributes few own e =
-    let none = none_long content.nets e in few_from content (gives contexts.Net attributes inner) (omega arith)
-few_more elements.Name context content inner attributes few own e =
+    → has_all_nets content element ≡ false → HasFew (content then gives (context_of_kind context element) attributes inner)
+few_more elements.Pnml context content inner attributes few own e space =
+    let none = none_long content.documents e in few_from content (gives contexts.Pnml attributes inner) (omega arith)
+few_more elements.Net context content inner attributes few own e space =
+    let room = leb-false MAX_NETS (length content.nets) space in few_from content (gives contexts.Net attributes inner) (omega arith)
+few_more elements.Name context content inner attributes few own e space =
     let none = none_long content.names e in few_from content (gives contexts.Name attributes inner) (omega arith)
-few_more elements.InitialMarking context content inner attributes few own e =
+few_more elements.InitialMarking context content inner attributes few own e space =
     let none = none_long content.numbers e in few_from content (gives contexts.InitialMarking attributes inner) (omega arith)
-few_more elements.Inscription context content inner attributes few own e =
+few_more elements.Inscription context content inner attributes few own e space =
     let none = none_long content.numbers e in few_from content (gives contexts.Inscription attributes inner) (omega arith)
-few_more elements.Text contexts.Name content inner attributes few own e =
+few_more elements.Text contexts.Name content inner attributes few own e space =
     let none = none_long content.texts e in few_from content (gives contexts.NameText attributes inner) (omega arith)
-few_more elements.Text contexts.InitialMarking content inner attributes few own e =
+few_more elements.Text contexts.InitialMarking content inner attributes few own e space =
     let none = none_long content.numerals e in few_from content (gives contexts.MarkingText attributes inner) (omega arith)
-few_more elements.Text contexts.Inscription content inner attributes few own e =
+few_more elements.Text contexts.Inscription content inner attributes few own e space =
     let none = none_long content.numerals e in few_from content (gives contexts.WeightText attributes inner) (omega arith)
-few_more elements.Text context content inner attributes few own e = few_same content few
-few_more elements.Graphics context content inner attributes few own e = few_same content few
-few_more elements.Toolspecific context content inner attributes few own e = few_same content few
-few_more element context content inner attributes few own e = few_from content (gives (context_of_kind context element) attributes inner) (omega arith)
+few_more elements.Text context content inner attributes few own e space = few_same content few
+few_more elements.Graphics context content inner attributes few own e space = few_same content few
+few_more elements.Toolspecific context content inner attributes few own e space = few_same content few
+few_more element context content inner attributes few own e space = few_from content (gives (context_of_kind context element) attributes inner) (omega arith)
 
 -- ---- an element in any context
 
@@ -98,12 +103,16 @@ is_first_of : (context : Context) (element : Option ElementKind) (content inner 
     → second_of context content element ≡ false
 is_first_of context None content inner attributes inside occurs few complete = refl
 is_first_of context (Some element) content inner attributes inside occurs few complete =
-    second_none element context content inner attributes inside (and_parts _ (may_hold context element) occurs).1 few complete
+    or_from (is_second context content element) (has_all_nets content element)
+    (second_none element context content inner attributes inside (and_parts _ (may_hold context element) occurs).1 few complete)
+    (net_fits element context content inner attributes few)
 
 few_after_of : (context : Context) (element : Option ElementKind) (content inner : Content) (attributes : List Attribute) → HasFew content → HasFew inner → second_of context content element ≡ false
     → HasFew (content then gives (context_if_any context element) attributes inner)
 few_after_of context None content inner attributes few own first = few_same content few
-few_after_of context (Some element) content inner attributes few own first = few_more element context content inner attributes few own first
+few_after_of context (Some element) content inner attributes few own first =
+    let both = or_parts (is_second context content element) (has_all_nets content element) first in
+    few_more element context content inner attributes few own both.0 both.1
 
 pub is_first : (context : Context) (content inner : Content) (name : List ℕ) (attributes : List Attribute) → IsTrue (may_occur context name attributes)
     → HasFew (content then gives (context_in context (element_named name)) attributes inner) → IsTrue (is_complete (context_in context (element_named name)) inner)

@@ -34,6 +34,7 @@ pub mod Endings
 pub mod DocumentLaws
 pub mod ValuedWalks
 pub mod ValuedTestLaws
+pub mod ValuedNets
 pub mod ReadToLaws
 pub mod SpotLaws
 pub mod ReasonLaws

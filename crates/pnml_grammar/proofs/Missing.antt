@@ -3,6 +3,7 @@
 use Rattle.std.proofs.Common.{◌≡◌, ℕ, ◌⊎◌, inl, inr, refl, sym, ap, ◌∙◌, List, [], ◌∷◌, ◌++◌, length, length-append, Option, Some, None, Bool, true, false, IsTrue, nat_le, codes, arith, true≢false}
 use Rattle.std.specs.List.{AllByRecursion}
 use Rattle.std.proofs.lemmas.Bool.{and_parts, leb-false, le-leb}
+use Rattle.net_values.specs.declared.document.Document.{Document}
 use Rattle.net_values.specs.declared.document.NetTree.{NetTree}
 use Rattle.pnml_grammar.specs.declared.element.ElementKind.{ElementKind}
 use Rattle.pnml_grammar.specs.declared.element.ElementKind.TheVariants as elements
@@ -148,22 +149,23 @@ root_is_outermost context name attributes occurs root = root_outermost_in contex
 
 -- the root that makes it whole
 pub record MakesWhole (content : Content) : Type 0 where
-  pub net : NetTree
+  pub document : Document
   pub child : IsChild contexts.Document whole_root
   pub few : HasFew (content then node_content contexts.Document whole_root)
-  pub one : (content then node_content contexts.Document whole_root).nets ≡ net ∷ []
+  pub one : (content then node_content contexts.Document whole_root).documents ≡ document ∷ []
   pub uncounted : node_counts contexts.Document whole_root ≡ no_counts
   pub legal : AllByRecursion HasLegalTexts (node_tokens whole_root)
 
-pub root_makes_whole : (content : Content) → HasFew content → content.nets ≡ [] → MakesWhole content
+pub root_makes_whole : (content : Content) → HasFew content → content.documents ≡ [] → MakesWhole content
 unfolding element_named element_names element_kinds
 root_makes_whole content few lacks =
-    let short : length content.nets ≡ 0 = ap length lacks in
+    let short : length content.documents ≡ 0 = ap length lacks in
+    let net : NetTree = record { id = codes "n"; name = None; items = [] } in
     record {
-      net = record { id = codes "n"; name = None; items = [] };
+      document = record { nets = net ∷ [] };
       child = (root_occurs, ((net_occurs, record { few = few_nothing; complete = refl }), tt), record { few = omega arith; complete = refl });
       few = few_from content (node_content contexts.Document whole_root) (omega arith);
-      one = ap (λ (nets : List NetTree). nets ++ record { id = codes "n"; name = None; items = [] } ∷ []) lacks;
+      one = ap (λ (documents : List Document). documents ++ record { nets = net ∷ [] } ∷ []) lacks;
       uncounted = refl;
       legal = ((printed_text namespace refl, tt), (net_legal, (tt, tt)));
     }

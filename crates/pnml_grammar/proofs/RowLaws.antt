@@ -18,7 +18,7 @@ use Rattle.pnml_grammar.specs.Contents.{Content, nothing, ◌then◌, characters
 use Rattle.pnml_grammar.specs.Counts.{Counts, ◌plus◌, counts_of_kind, counts_if_any, tag_counts, IsWithin}
 use Rattle.pnml_grammar.specs.Documents.{HasFew, is_complete, may_have_characters, may_have_cdata}
 use Rattle.pnml_grammar.specs.OpenElements.{Frame, State}
-use Rattle.pnml_grammar.specs.Reasons.{first_row, has_some, is_pnml, is_number_text, is_full, count_rows, tag_rows, open_rows, is_other_end, end_rows_in, characters_rows, cdata_rows, name_rows, number_rows}
+use Rattle.pnml_grammar.specs.Reasons.{first_row, has_some, is_second, has_all_nets, is_pnml, is_number_text, is_full, count_rows, tag_rows, open_rows, is_other_end, end_rows_in, characters_rows, cdata_rows, name_rows, number_rows}
 use Rattle.pnml_grammar.proofs.FirstLaws.{has_some_is, has_none, none_long, few_same, second_of, second_in}
 use Rattle.pnml_grammar.proofs.ContentLaws.{HaveFew, few_parts, few_from}
 
@@ -109,6 +109,7 @@ tag_none state empty attributes (Some element) occurs first room counted whole =
     let held = and_parts _ (may_hold context element) occurs in
     let had = and_parts _ (has_attributes element attributes) held.0 in
     let typed = and_parts (has_namespace element attributes) (has_type element attributes) had.0 in
+    let both = or_parts (is_second context state.top.content element) (has_all_nets state.top.content element) first in
     none_from (tag_rows state empty attributes (Some element)) (
       ap not typed.0,
       (
@@ -120,12 +121,15 @@ tag_none state empty attributes (Some element) occurs first room counted whole =
             (
               ap not held.1,
               (
-                first,
+                both.0,
                 (
                   none_if_empty empty (is_pnml element) (λ e. not_pnml context element (whole e)),
                   (
                     lt-leb _ _ room,
-                    count_none element state.counts counted,
+                    (
+                      both.1,
+                      count_none element state.counts counted,
+                    ),
                   ),
                 ),
               ),
@@ -149,11 +153,12 @@ tag_passed state empty attributes (Some element) within e =
     let held = number.1 in
     let first = held.1 in
     let root = first.1 in
-    let room = root.1 in (
+    let room = root.1 in
+    let space = room.1 in (
       and_from _ _ (and_from _ _ (and_from _ _ (not-false _ spaced.0) (not-false _ typed.0)) (not-false _ had.0)) (not-false _ held.0),
-      first.0,
+      or_from _ _ first.0 space.0,
       leb-false _ _ room.0,
-      count_passed element state.counts within room.1,
+      count_passed element state.counts within space.1,
       λ is. whole_from element context (if_empty empty (is_number_text context element) number.0 is) (if_empty empty (is_pnml element) root.0 is),
     )
 

@@ -1,12 +1,14 @@
 -- Items are counted by elements: what a tree gives has at most as many of each kind as the tree has elements.
-use Rattle.std.proofs.Common.{ℕ, ◌≤◌, List, [], ◌∷◌, ◌++◌, arith}
+use Rattle.std.proofs.Common.{ℕ, ◌≤◌, List, [], ◌∷◌, ◌++◌, sym, subst, append-nil, arith}
 use Rattle.std.specs.Prelude.{count_by}
 use Rattle.std.specs.List.{AllByRecursion}
+use Rattle.std.proofs.lemmas.Grind.{flat_map-append}
+use Rattle.net_values.specs.declared.document.Document.{Document}
 use Rattle.net_values.specs.declared.document.NetTree.{NetTree}
 use Rattle.net_values.specs.declared.document.Item.{Item}
 use Rattle.net_values.specs.declared.document.Item.TheVariants.{Page, PageEnd}
 use Rattle.net_values.specs.declared.document.PageNode.{PageNode}
-use Rattle.net_values.specs.Items.{is_page, is_place, is_transition, is_arc, is_reference}
+use Rattle.net_values.specs.Items.{all_items, is_page, is_place, is_transition, is_arc, is_reference}
 use Rattle.pnml_grammar.specs.declared.element.Context.{Context}
 use Rattle.pnml_grammar.specs.declared.element.Context.TheVariants as contexts
 use Rattle.pnml_grammar.specs.declared.element.ElementKind.{ElementKind}
@@ -44,27 +46,31 @@ counted_first one other items a = omega (arith, a)
 counted_second : (one other : Counts) (items : List Item) → AreCounted other items → AreCounted (one plus other) items
 counted_second one other items a = omega (arith, a)
 
-abbrev pub IsNetCounted : Counts → NetTree → Type 0
-IsNetCounted counts net = AreCounted counts net.items
+-- the items of all nets together
+abbrev pub IsDocumentCounted : Counts → Document → Type 0
+IsDocumentCounted counts document = AreCounted counts (all_items document.nets)
 
 pub record GivesCounted (counts : Counts) (c : Content) : Type 0 where
-  pub nets : AllByRecursion (IsNetCounted counts) c.nets
+  pub documents : AllByRecursion (IsDocumentCounted counts) c.documents
+  pub nets : AreCounted counts (all_items c.nets)
   pub items : AreCounted counts c.items
 
 nothing_counted : (counts : Counts) → GivesCounted counts nothing
-nothing_counted counts = record { nets = tt; items = none_counted counts }
+nothing_counted counts = record { documents = tt; nets = none_counted _; items = none_counted counts }
 
 joined_counted : (one other : Counts) (a b : Content) → GivesCounted one a → GivesCounted other b → GivesCounted (one plus other) (a then b)
 joined_counted one other a b first second = record {
-  nets = each_append (IsNetCounted (one plus other)) a.nets b.nets
-      (each_weaker (IsNetCounted one) (IsNetCounted (one plus other)) (λ net. counted_first one other net.items) a.nets first.nets)
-      (each_weaker (IsNetCounted other) (IsNetCounted (one plus other)) (λ net. counted_second one other net.items) b.nets second.nets);
+  documents = each_append (IsDocumentCounted (one plus other)) a.documents b.documents
+      (each_weaker (IsDocumentCounted one) (IsDocumentCounted (one plus other)) (λ document. counted_first one other (all_items document.nets)) a.documents first.documents)
+      (each_weaker (IsDocumentCounted other) (IsDocumentCounted (one plus other)) (λ document. counted_second one other (all_items document.nets)) b.documents second.documents);
+  nets = subst (AreCounted (one plus other)) (sym (flat_map-append (λ (net : NetTree). net.items) a.nets b.nets))
+      (more_counted one other (all_items a.nets) (all_items b.nets) first.nets second.nets);
   items = more_counted one other a.items b.items first.items second.items;
 }
 
 -- an item of one element
 item_counted : (one counts : Counts) (item : Item) → AreCounted one (item ∷ []) → GivesCounted (one plus counts) (record nothing { items = item ∷ [] })
-item_counted one counts item is = record { nets = tt; items = counted_first one counts (item ∷ []) is }
+item_counted one counts item is = record { documents = tt; nets = none_counted _; items = counted_first one counts (item ∷ []) is }
 
 page_counted : (page : PageNode) (counts : Counts) (items : List Item) → AreCounted counts items → AreCounted (counts_of_kind elements.Page plus counts) (Page page ∷ items ++ PageEnd ∷ [])
 page_counted page counts items is = record {
@@ -76,17 +82,22 @@ page_counted page counts items is = record {
 }
 
 text_counted : (context : Context) (attributes : List Attribute) (counts : Counts) (c : Content) → GivesCounted counts (gives (context_of_text context) attributes c)
-text_counted contexts.Name attributes counts c = record { nets = tt; items = none_counted counts }
-text_counted context attributes counts c = record { nets = tt; items = none_counted counts }
+text_counted contexts.Name attributes counts c = record { documents = tt; nets = none_counted _; items = none_counted counts }
+text_counted context attributes counts c = record { documents = tt; nets = none_counted _; items = none_counted counts }
 
 element_counted : (context : Context) (kind : ElementKind) (attributes : List Attribute) (counts : Counts) (c : Content) → GivesCounted counts c
     → GivesCounted (counts_of_kind kind plus counts) (gives (context_of_kind context kind) attributes c)
 element_counted context elements.Pnml attributes counts c each = record {
-  nets = each_weaker (IsNetCounted counts) (IsNetCounted (no_counts plus counts)) (λ net. counted_second no_counts counts net.items) c.nets each.nets;
+  documents = (counted_second no_counts counts (all_items c.nets) each.nets, tt);
+  nets = none_counted _;
   items = none_counted _;
 }
-element_counted context elements.Net attributes counts c each = record { nets = (counted_second no_counts counts c.items each.items, tt); items = none_counted _ }
-element_counted context elements.Page attributes counts c each = record { nets = tt; items = page_counted record { id = id_in attributes; name = first_value c.names } counts c.items each.items }
+element_counted context elements.Net attributes counts c each = record {
+  documents = tt;
+  nets = counted_second no_counts counts (c.items ++ []) (subst (AreCounted counts) (sym (append-nil c.items)) each.items);
+  items = none_counted _;
+}
+element_counted context elements.Page attributes counts c each = record { documents = tt; nets = none_counted _; items = page_counted record { id = id_in attributes; name = first_value c.names } counts c.items each.items }
 element_counted context elements.Place attributes counts c each = item_counted (counts_of_kind elements.Place) counts _ (omega arith)
 element_counted context elements.Transition attributes counts c each = item_counted (counts_of_kind elements.Transition) counts _ (omega arith)
 element_counted context elements.Arc attributes counts c each = item_counted (counts_of_kind elements.Arc) counts _ (omega arith)
@@ -95,14 +106,14 @@ element_counted context elements.ReferencePlace attributes counts c each =
 element_counted context elements.ReferenceTransition attributes counts c each =
     item_counted (counts_of_kind elements.ReferenceTransition) counts _ (omega arith)
 element_counted context elements.Text attributes counts c each = text_counted context attributes _ c
-element_counted context kind attributes counts c each = record { nets = tt; items = none_counted _ }
+element_counted context kind attributes counts c each = record { documents = tt; nets = none_counted _; items = none_counted _ }
 
 characters_counted : (context : Context) (value : List ℕ) → GivesCounted no_counts (characters_content context value)
-characters_counted contexts.NameText value = record { nets = tt; items = none_counted no_counts }
-characters_counted context value = record { nets = tt; items = none_counted no_counts }
+characters_counted contexts.NameText value = record { documents = tt; nets = none_counted _; items = none_counted no_counts }
+characters_counted context value = record { documents = tt; nets = none_counted _; items = none_counted no_counts }
 
 cdata_counted : (context : Context) (value : List ℕ) → GivesCounted no_counts (cdata_content context value)
-cdata_counted contexts.NameText value = record { nets = tt; items = none_counted no_counts }
+cdata_counted contexts.NameText value = record { documents = tt; nets = none_counted _; items = none_counted no_counts }
 cdata_counted context value = nothing_counted no_counts
 
 -- what a tree gives is counted by its elements

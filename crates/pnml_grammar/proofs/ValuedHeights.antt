@@ -6,6 +6,7 @@ use Rattle.std.specs.List.{AllByRecursion}
 use Rattle.std.proofs.lemmas.Bool.{cases_Bool}
 use Rattle.std.proofs.lemmas.List.{append-nil}
 use Rattle.net_values.specs.declared.limits.TheConstants.{MAX_OPEN_ELEMENTS}
+use Rattle.net_values.specs.declared.document.Document.{Document}
 use Rattle.net_values.specs.declared.document.NetTree.{NetTree}
 use Rattle.net_values.specs.declared.document.Item.{Item}
 use Rattle.net_values.specs.declared.document.Item.TheVariants.{Page, PageEnd}
@@ -25,13 +26,12 @@ use Rattle.pnml_grammar.proofs.ValuedTrees.{IsKept, IsRead, IsRightTag}
 abbrev AreLow : ℕ → List Item → Type 0
 AreLow h items = (opened : ℕ) (more : List Item) → opened + h ≤ MAX_OPEN_ELEMENTS → IsShallow opened more → IsShallow opened (items ++ more)
 
--- the elements around a net, that of it and those above it, up to the context
-abbrev above_net : Context → ℕ
-above_net contexts.Document = 2
-above_net context = 1
+-- the net's own element is around its items, and in a document the root's too
+abbrev pub IsLowNet : ℕ → ℕ → NetTree → Type 0
+IsLowNet around h net = (opened : ℕ) → opened + h ≤ MAX_OPEN_ELEMENTS + around → IsShallow opened net.items
 
-abbrev pub IsLowNet : Context → ℕ → NetTree → Type 0
-IsLowNet context h net = (opened : ℕ) → opened + h ≤ MAX_OPEN_ELEMENTS + above_net context → IsShallow opened net.items
+abbrev pub IsLowDocument : ℕ → Document → Type 0
+IsLowDocument h document = AllByRecursion (IsLowNet 2 h) document.nets
 
 abbrev number_height : Option ℕ → ℕ
 number_height None = 0
@@ -44,7 +44,8 @@ numeral_height contexts.WeightText = 0
 numeral_height context = 1
 
 pub record GivesLow (context : Context) (h : ℕ) (c : Content) : Type 0 where
-  pub nets : AllByRecursion (IsLowNet context h) c.nets
+  pub documents : AllByRecursion (IsLowDocument h) c.documents
+  pub nets : AllByRecursion (IsLowNet 1 h) c.nets
   pub items : AreLow h c.items
   pub names : AllByRecursion (λ name. name_height name ≤ h) c.names
   pub numbers : AllByRecursion (λ number. number_height number ≤ h) c.numbers
@@ -52,11 +53,12 @@ pub record GivesLow (context : Context) (h : ℕ) (c : Content) : Type 0 where
   pub numerals : AllByRecursion (λ number. numeral_height context ≤ h) c.numerals
 
 nothing_low : (context : Context) (h : ℕ) → GivesLow context h nothing
-nothing_low context h = record { nets = tt; items = λ opened more low shallow. shallow; names = tt; numbers = tt; texts = tt; numerals = tt }
+nothing_low context h = record { documents = tt; nets = tt; items = λ opened more low shallow. shallow; names = tt; numbers = tt; texts = tt; numerals = tt }
 
 -- with more room
 lower : (context : Context) (h i : ℕ) (c : Content) → h ≤ i → GivesLow context h c → GivesLow context i c
 lower context h i c le low = record {
+  documents = each_weaker _ _ (λ document low_nets. each_weaker _ _ (λ net is opened room. is opened (omega arith)) document.nets low_nets) c.documents low.documents;
   nets = each_weaker _ _ (λ net is opened room. is opened (omega arith)) c.nets low.nets;
   items = λ opened more room shallow. low.items opened more (omega arith) shallow;
   names = each_weaker _ _ (λ name is. omega arith) c.names low.names;
@@ -67,6 +69,7 @@ lower context h i c le low = record {
 
 both_low : (context : Context) (h : ℕ) (a b : Content) → GivesLow context h a → GivesLow context h b → GivesLow context h (a then b)
 both_low context h a b one other = record {
+  documents = each_append _ a.documents b.documents one.documents other.documents;
   nets = each_append _ a.nets b.nets one.nets other.nets;
   items = λ opened more room shallow. subst (IsShallow opened) (sym (append_assoc a.items b.items more)) (one.items opened (b.items ++ more) room (other.items opened more room shallow));
   names = each_append _ a.names b.names one.names other.names;
@@ -85,13 +88,13 @@ each_numeral [] h = tt
 each_numeral (n ∷ numerals) h = (omega arith, each_numeral numerals h)
 
 characters_low : (context : Context) (value : List ℕ) → GivesLow context 0 (characters_content context value)
-characters_low contexts.NameText value = record { nets = tt; items = λ opened more low shallow. shallow; names = tt; numbers = tt; texts = tt; numerals = tt }
-characters_low contexts.MarkingText value = record { nets = tt; items = λ opened more low shallow. shallow; names = tt; numbers = tt; texts = tt; numerals = each_numeral _ 0 }
-characters_low contexts.WeightText value = record { nets = tt; items = λ opened more low shallow. shallow; names = tt; numbers = tt; texts = tt; numerals = each_numeral _ 0 }
+characters_low contexts.NameText value = record { documents = tt; nets = tt; items = λ opened more low shallow. shallow; names = tt; numbers = tt; texts = tt; numerals = tt }
+characters_low contexts.MarkingText value = record { documents = tt; nets = tt; items = λ opened more low shallow. shallow; names = tt; numbers = tt; texts = tt; numerals = each_numeral _ 0 }
+characters_low contexts.WeightText value = record { documents = tt; nets = tt; items = λ opened more low shallow. shallow; names = tt; numbers = tt; texts = tt; numerals = each_numeral _ 0 }
 characters_low context value = nothing_low context 0
 
 cdata_low : (context : Context) (value : List ℕ) → GivesLow context 0 (cdata_content context value)
-cdata_low contexts.NameText value = record { nets = tt; items = λ opened more low shallow. shallow; names = tt; numbers = tt; texts = tt; numerals = tt }
+cdata_low contexts.NameText value = record { documents = tt; nets = tt; items = λ opened more low shallow. shallow; names = tt; numbers = tt; texts = tt; numerals = tt }
 cdata_low context value = nothing_low context 0
 
 -- ---- elements
@@ -117,7 +120,7 @@ marked_low n h name (Some number ∷ numbers) each le =
     elim (cases_Bool (number == n)) [ inl same ↦ rw same (omega arith) | inr other ↦ rw other (omega (arith, each.0)) ]
 
 items_low : (context : Context) (h : ℕ) (items : List Item) → AreLow h items → GivesLow context h (record nothing { items = items })
-items_low context h items low = record { nets = tt; items = low; names = tt; numbers = tt; texts = tt; numerals = tt }
+items_low context h items low = record { documents = tt; nets = tt; items = low; names = tt; numbers = tt; texts = tt; numerals = tt }
 
 page_low : (page : PageNode) (items : List Item) (h : ℕ) → item_height (Page page) ≤ suc h → AreLow h items → AreLow (suc h) (Page page ∷ items ++ PageEnd ∷ [])
 page_low page items h le low opened more room shallow =
@@ -137,7 +140,8 @@ holds_net context read e = absurd cc
 
 root_low : (attributes : List Attribute) (h : ℕ) (c : Content) → GivesLow contexts.Pnml h c → GivesLow contexts.Document (suc h) (gives contexts.Pnml attributes c)
 root_low attributes h c each = record {
-  nets = each_weaker _ _ (λ net is opened room. is opened (omega arith)) c.nets each.nets;
+  documents = (each_weaker _ _ (λ net is opened room. is opened (omega arith)) c.nets each.nets, tt);
+  nets = tt;
   items = λ opened more low shallow. shallow;
   names = tt;
   numbers = tt;
@@ -147,6 +151,7 @@ root_low attributes h c each = record {
 
 net_low : (attributes : List Attribute) (h : ℕ) (c : Content) → GivesLow contexts.Net h c → GivesLow contexts.Pnml (suc h) (gives contexts.Net attributes c)
 net_low attributes h c each = record {
+  documents = tt;
   nets = (λ opened room. subst (IsShallow opened) (append-nil c.items) (each.items opened [] (omega arith) tt), tt);
   items = λ opened more low shallow. shallow;
   names = tt;
@@ -156,11 +161,12 @@ net_low attributes h c each = record {
 }
 
 label_low : (context : Context) (h : ℕ) (numerals : List ℕ) → AllByRecursion (λ number. 1 ≤ h) numerals → GivesLow context (suc h) (record nothing { numbers = first numerals ∷ [] })
-label_low context h numerals each = record { nets = tt; items = λ opened more low shallow. shallow; names = tt; numbers = (first_numeral h numerals each, tt); texts = tt; numerals = tt }
+label_low context h numerals each = record { documents = tt; nets = tt; items = λ opened more low shallow. shallow; names = tt; numbers = (first_numeral h numerals each, tt); texts = tt; numerals = tt }
 
 text_low : (context : Context) (attributes : List Attribute) (h : ℕ) (c : Content) → GivesLow (context_of_text context) h c → GivesLow context (suc h) (gives (context_of_text context) attributes c)
-text_low contexts.Name attributes h c each = record { nets = tt; items = λ opened more low shallow. shallow; names = tt; numbers = tt; texts = (omega arith, tt); numerals = tt }
+text_low contexts.Name attributes h c each = record { documents = tt; nets = tt; items = λ opened more low shallow. shallow; names = tt; numbers = tt; texts = (omega arith, tt); numerals = tt }
 text_low contexts.InitialMarking attributes h c each = record {
+  documents = tt;
   nets = tt;
   items = λ opened more low shallow. shallow;
   names = tt;
@@ -169,6 +175,7 @@ text_low contexts.InitialMarking attributes h c each = record {
   numerals = each_weaker _ _ (λ number is. omega arith) c.numerals each.numerals;
 }
 text_low contexts.Inscription attributes h c each = record {
+  documents = tt;
   nets = tt;
   items = λ opened more low shallow. shallow;
   names = tt;
@@ -195,6 +202,7 @@ element_low context elements.ReferencePlace attributes h c tag each =
 element_low context elements.ReferenceTransition attributes h c tag each =
     items_low context (suc h) _ (λ opened more room shallow. (omega (arith, first_name h c.names each.names), shallow))
 element_low context elements.Name attributes h c tag each = record {
+  documents = tt;
   nets = tt;
   items = λ opened more low shallow. shallow;
   names = (first_text h c.texts each.texts, tt);

@@ -1,10 +1,12 @@
 -- Ids, names, markings and weights that a tree gives are in range: an id by the test of its tag, a name by the
 -- limit on its text's bytes, and a number by the test of its digits.
 use Rattle.std.proofs.Common.{◌≡◌, ℕ, ◌<◌, ◌≤◌, ◌^◌, true, List, [], ◌∷◌, Option, Some, None, refl, inl, inr, arith}
-use Rattle.std.specs.Prelude.{◌&&◌, nat_le, nat_lt, unwrap_or, option_to_list, IfSome}
+use Rattle.std.specs.Prelude.{◌&&◌, nat_le, nat_lt, length, unwrap_or, option_to_list, IfSome}
 use Rattle.std.specs.List.{AllByRecursion}
 use Rattle.std.proofs.lemmas.Bool.{cases_Bool, and_parts, leb-true, ltb-true}
 use Rattle.net_values.specs.Characters.{IsLegalText, IsId, IsNameValue}
+use Rattle.net_values.specs.declared.limits.TheConstants.{MAX_NETS}
+use Rattle.net_values.specs.declared.document.Document.{Document}
 use Rattle.net_values.specs.declared.document.NetTree.{NetTree}
 use Rattle.net_values.specs.declared.document.Item.{Item}
 use Rattle.net_values.specs.declared.document.Item.TheVariants.{PageEnd}
@@ -48,7 +50,13 @@ pub record IsNetInRange (net : NetTree) : Type 0 where
   pub name : IsNameIfAny net.name
   pub items : AllByRecursion HasValuesInRange net.items
 
+pub record IsDocumentInRange (document : Document) : Type 0 where
+  pub some : 1 ≤ length document.nets
+  pub few : length document.nets ≤ MAX_NETS
+  pub nets : AllByRecursion IsNetInRange document.nets
+
 pub record IsContentInRange (context : Context) (c : Content) : Type 0 where
+  pub documents : AllByRecursion IsDocumentInRange c.documents
   pub nets : AllByRecursion IsNetInRange c.nets
   pub items : AllByRecursion HasValuesInRange c.items
   pub names : AllByRecursion IsNameIfAny c.names
@@ -58,10 +66,11 @@ pub record IsContentInRange (context : Context) (c : Content) : Type 0 where
   pub numerals : AllByRecursion (IsNumberOf context) c.numerals
 
 nothing_in_range : (context : Context) → IsContentInRange context nothing
-nothing_in_range context = record { nets = tt; items = tt; names = tt; numbers = tt; texts = tt; bytes = legal_nothing; numerals = tt }
+nothing_in_range context = record { documents = tt; nets = tt; items = tt; names = tt; numbers = tt; texts = tt; bytes = legal_nothing; numerals = tt }
 
 joined_in_range : (context : Context) (a b : Content) → IsContentInRange context a → IsContentInRange context b → IsContentInRange context (a then b)
 joined_in_range context a b one other = record {
+  documents = each_append IsDocumentInRange a.documents b.documents one.documents other.documents;
   nets = each_append IsNetInRange a.nets b.nets one.nets other.nets;
   items = each_append HasValuesInRange a.items b.items one.items other.items;
   names = each_append IsNameIfAny a.names b.names one.names other.names;
@@ -73,26 +82,30 @@ joined_in_range context a b one other = record {
 
 -- ---- content of one sort
 
+document_in_range : (context : Context) (document : Document) → IsDocumentInRange document → IsContentInRange context (record nothing { documents = document ∷ [] })
+document_in_range context document is =
+    record { documents = (is, tt); nets = tt; items = tt; names = tt; numbers = tt; texts = tt; bytes = legal_nothing; numerals = tt }
+
 nets_in_range : (context : Context) (nets : List NetTree) → AllByRecursion IsNetInRange nets → IsContentInRange context (record nothing { nets = nets })
-nets_in_range context nets each = record { nets = each; items = tt; names = tt; numbers = tt; texts = tt; bytes = legal_nothing; numerals = tt }
+nets_in_range context nets each = record { documents = tt; nets = each; items = tt; names = tt; numbers = tt; texts = tt; bytes = legal_nothing; numerals = tt }
 
 items_in_range : (context : Context) (items : List Item) → AllByRecursion HasValuesInRange items → IsContentInRange context (record nothing { items = items })
-items_in_range context items each = record { nets = tt; items = each; names = tt; numbers = tt; texts = tt; bytes = legal_nothing; numerals = tt }
+items_in_range context items each = record { documents = tt; nets = tt; items = each; names = tt; numbers = tt; texts = tt; bytes = legal_nothing; numerals = tt }
 
 name_in_range : (context : Context) (name : Option (List ℕ)) → IsNameIfAny name → IsContentInRange context (record nothing { names = name ∷ [] })
-name_in_range context name is = record { nets = tt; items = tt; names = (is, tt); numbers = tt; texts = tt; bytes = legal_nothing; numerals = tt }
+name_in_range context name is = record { documents = tt; nets = tt; items = tt; names = (is, tt); numbers = tt; texts = tt; bytes = legal_nothing; numerals = tt }
 
 number_in_range : (context : Context) (number : Option ℕ) → IsNumberIfAny context number → IsContentInRange context (record nothing { numbers = number ∷ [] })
-number_in_range context number is = record { nets = tt; items = tt; names = tt; numbers = (is, tt); texts = tt; bytes = legal_nothing; numerals = tt }
+number_in_range context number is = record { documents = tt; nets = tt; items = tt; names = tt; numbers = (is, tt); texts = tt; bytes = legal_nothing; numerals = tt }
 
 text_in_range : (context : Context) (text : List ℕ) → IsNameValue text → IsContentInRange context (record nothing { texts = text ∷ [] })
-text_in_range context text is = record { nets = tt; items = tt; names = tt; numbers = tt; texts = (is, tt); bytes = legal_nothing; numerals = tt }
+text_in_range context text is = record { documents = tt; nets = tt; items = tt; names = tt; numbers = tt; texts = (is, tt); bytes = legal_nothing; numerals = tt }
 
 bytes_in_range : (context : Context) (bytes : List ℕ) → IsLegalText bytes → IsContentInRange context (record nothing { bytes = bytes })
-bytes_in_range context bytes is = record { nets = tt; items = tt; names = tt; numbers = tt; texts = tt; bytes = is; numerals = tt }
+bytes_in_range context bytes is = record { documents = tt; nets = tt; items = tt; names = tt; numbers = tt; texts = tt; bytes = is; numerals = tt }
 
 numerals_in_range : (context : Context) (numerals : List ℕ) → AllByRecursion (IsNumberOf context) numerals → IsContentInRange context (record nothing { numerals = numerals })
-numerals_in_range context numerals each = record { nets = tt; items = tt; names = tt; numbers = tt; texts = tt; bytes = legal_nothing; numerals = each }
+numerals_in_range context numerals each = record { documents = tt; nets = tt; items = tt; names = tt; numbers = tt; texts = tt; bytes = legal_nothing; numerals = each }
 
 -- ---- characters
 
@@ -165,7 +178,8 @@ text_element context attributes c filled each = nothing_in_range context
 
 element_in_range : (context : Context) (kind : ElementKind) (attributes : List Attribute) (c : Content) → IsRightTag context kind attributes → HaveLegalValues attributes
     → IsFilled (context_of_kind context kind) c → IsContentInRange (context_of_kind context kind) c → IsContentInRange context (gives (context_of_kind context kind) attributes c)
-element_in_range context elements.Pnml attributes c tag legal filled each = nets_in_range context c.nets each.nets
+element_in_range context elements.Pnml attributes c tag legal filled each =
+    document_in_range context _ record { some = leb-true 1 (length c.nets) filled.complete; few = filled.few.nets; nets = each.nets }
 element_in_range context elements.Net attributes c tag legal filled each =
     let ids = ids_are_in_range elements.Net attributes refl tag.attributes_are legal in
     nets_in_range context _ (record { id = ids.id refl; name = first_name c.names each.names; items = each.items }, tt)

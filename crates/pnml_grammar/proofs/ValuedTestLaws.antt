@@ -1,25 +1,22 @@
--- The test of a document tells whether it is valued: each test of a value is exact, and the walk over the items
--- tests the same at each item as the definitions that run over them.
-use Rattle.std.proofs.Common.{◌≡◌, ℕ, ◌≤◌, ◌^◌, Bool, true, List, [], ◌∷◌, Option, Some, None, refl, sym, ap, ◌∙◌, arith, length, inl, inr}
-use Rattle.std.specs.Prelude.{◌↔◌, ◌==◌, ◌&&◌, not, nat_le, nat_lt, chars, IsUtf8, IsTrue}
+-- The test of a value is exact: of an id, of a name, and of the values of an item.
+use Rattle.std.proofs.Common.{◌≡◌, ℕ, ◌≤◌, ◌^◌, Bool, true, List, [], ◌∷◌, Option, Some, None, refl, sym, ap, ◌∙◌, length}
+use Rattle.std.specs.Prelude.{◌==◌, ◌&&◌, not, nat_le, nat_lt, chars, IsUtf8}
 use Rattle.std.specs.List.{AllByRecursion, list_all}
 use Rattle.std.specs.Str.{is_utf8, all_scalars}
 use Rattle.std.proofs.Math.Utf8.{scalar}
-use Rattle.std.proofs.lemmas.Bool.{cases_Bool, true≢false, and_parts, and_from, leb-true, ltb-true, le-leb, lt-ltb, eqb-false, ne_eqb, not-true}
+use Rattle.std.proofs.lemmas.Bool.{and_parts, and_from, leb-true, ltb-true, le-leb, lt-ltb, eqb-false, ne_eqb, not-true}
 use Rattle.std.proofs.lemmas.Str.{chars-encodes, encodes-chars, IsUtf8-from_is_utf8, is_utf8-from_IsUtf8}
 use Rattle.net_values.specs.declared.limits.TheConstants.{MAX_ID_BYTES, MAX_NAME_BYTES}
-use Rattle.net_values.specs.declared.document.Document.{Document}
 use Rattle.net_values.specs.declared.document.RefNode.{RefNode}
 use Rattle.net_values.specs.declared.document.Item.{Item}
 use Rattle.net_values.specs.declared.document.Item.TheVariants.{Page, PageEnd, Place, Transition, RefPlace, RefTransition, Arc}
 use Rattle.net_values.specs.Characters.{IsLegalCharacter, IsTextOf, IsIdCharacter, IsId, IsNameValue}
 use Rattle.pnml_grammar.specs.Resolving.{is_legal_character}
-use Rattle.pnml_grammar.specs.Valued.{IsNameIfAny, HasValuesInRange, IsWithinLimits, Valued, IsValuedOrNot}
-use Rattle.pnml_grammar.specs.ValuedTests.{is_text_of, is_id_character, is_valued_id, is_valued_name, is_valued_name_if_any, is_weight, has_values_in_range, start, walks, is_valued}
-use Rattle.pnml_grammar.proofs.EachLaws.{each_found, each_tested, each_weaker}
+use Rattle.pnml_grammar.specs.Valued.{IsNameIfAny, HasValuesInRange}
+use Rattle.pnml_grammar.specs.ValuedTests.{is_text_of, is_id_character, is_valued_id, is_valued_name, is_valued_name_if_any, is_weight, has_values_in_range}
+use Rattle.pnml_grammar.proofs.EachLaws.{each_found, each_tested}
 use Rattle.pnml_grammar.proofs.ReferenceLaws.{legal_is, legal_found}
 use Rattle.pnml_grammar.proofs.TextLaws.{legal_scalar}
-use Rattle.pnml_grammar.proofs.ValuedWalks.{IsFit, AreWithin, Walks, walks_found, walks_is}
 
 -- ---- what the code finds of texts
 
@@ -96,12 +93,12 @@ name_if_any_is (Some name) h = name_is name h
 -- ---- items
 
 -- an id and a name, which all items but the end of a page have
-node_found : (id : List ℕ) (name : Option (List ℕ)) → (is_valued_id id && is_valued_name_if_any name) ≡ true → IsId id × IsNameIfAny name
+pub node_found : (id : List ℕ) (name : Option (List ℕ)) → (is_valued_id id && is_valued_name_if_any name) ≡ true → IsId id × IsNameIfAny name
 node_found id name e =
     let p = and_parts (is_valued_id id) (is_valued_name_if_any name) e in
     (id_found id p.0, name_if_any_found name p.1)
 
-node_is : (id : List ℕ) (name : Option (List ℕ)) → IsId id → IsNameIfAny name → (is_valued_id id && is_valued_name_if_any name) ≡ true
+pub node_is : (id : List ℕ) (name : Option (List ℕ)) → IsId id → IsNameIfAny name → (is_valued_id id && is_valued_name_if_any name) ≡ true
 node_is id name is named = and_from (is_valued_id id) (is_valued_name_if_any name) (id_is id is) (name_if_any_is name named)
 
 reference_found : (node : RefNode) → (is_valued_id node.id && is_valued_name_if_any node.name && is_valued_id node.target) ≡ true → IsId node.id × IsNameIfAny node.name × IsId node.target
@@ -113,7 +110,7 @@ reference_found node e =
 reference_is : (node : RefNode) → IsId node.id × IsNameIfAny node.name × IsId node.target → (is_valued_id node.id && is_valued_name_if_any node.name && is_valued_id node.target) ≡ true
 reference_is node h = and_from (is_valued_id node.id && is_valued_name_if_any node.name) (is_valued_id node.target) (node_is node.id node.name h.0 h.1) (id_is node.target h.2)
 
-item_found : (item : Item) → has_values_in_range item ≡ true → HasValuesInRange item
+pub item_found : (item : Item) → has_values_in_range item ≡ true → HasValuesInRange item
 item_found (Page page) e = node_found page.id page.name e
 item_found PageEnd e = tt
 item_found (Place place) e =
@@ -132,7 +129,7 @@ item_found (Arc arc) e =
     let weight = and_parts (nat_le 1 arc.weight) (nat_lt arc.weight (2 ^ 64)) p.1 in
     (node.0, node.1, id_found arc.source r.1, id_found arc.target q.1, leb-true 1 arc.weight weight.0, ltb-true arc.weight (2 ^ 64) weight.1)
 
-item_is : (item : Item) → HasValuesInRange item → has_values_in_range item ≡ true
+pub item_is : (item : Item) → HasValuesInRange item → has_values_in_range item ≡ true
 item_is (Page page) h = node_is page.id page.name h.0 h.1
 item_is PageEnd h = refl
 item_is (Place place) h =
@@ -147,49 +144,3 @@ item_is (Arc arc) h =
     let target : (named && is_valued_id arc.source && is_valued_id arc.target) ≡ true = and_from (named && is_valued_id arc.source) (is_valued_id arc.target) source (id_is arc.target h.3) in
     and_from (named && is_valued_id arc.source && is_valued_id arc.target) (is_weight arc.weight) target
     (and_from (nat_le 1 arc.weight) (nat_lt arc.weight (2 ^ 64)) (le-leb 1 arc.weight h.4) (lt-ltb arc.weight (2 ^ 64) h.5))
-
--- ---- documents
-
-start_fits : IsFit start
-start_fits = omega arith
-
-start_within : (items : List Item) → AreWithin start items → IsWithinLimits items
-start_within items within = omega (arith, within)
-
-limits_within : (items : List Item) → IsWithinLimits items → AreWithin start items
-limits_within items limits = omega (arith, limits)
-
-valued_found : (document : Document) → is_valued document ≡ true → Valued document
-unfolding is_valued
-valued_found document e =
-    let items = document.net.items in
-    let p = and_parts (is_valued_id document.net.id && is_valued_name_if_any document.net.name) (walks (Some start) items) e in
-    let net = node_found document.net.id document.net.name p.0 in
-    let all = walks_found start items start_fits p.1 in
-    record {
-      id = net.0;
-      name = net.1;
-      items = each_weaker (λ item. has_values_in_range item ≡ true) HasValuesInRange item_found items all.0;
-      pages = all.1.pages;
-      shallow = all.1.shallow;
-      limits = start_within items all.1.within;
-    }
-
-valued_is : (document : Document) → Valued document → is_valued document ≡ true
-unfolding is_valued
-valued_is document h =
-    let items = document.net.items in
-    let is : Walks start items = record { pages = h.pages; shallow = h.shallow; within = limits_within items h.limits } in
-    and_from (is_valued_id document.net.id && is_valued_name_if_any document.net.name) (walks (Some start) items) (node_is document.net.id document.net.name h.id h.name)
-    (walks_is start items start_fits (each_weaker HasValuesInRange (λ item. has_values_in_range item ≡ true) item_is items h.items) is)
-
--- the test tells whether the document is valued
-pub valued_decided : (document : Document) (b : Bool) → b ≡ is_valued document → IsTrue b ↔ Valued document
-valued_decided document b e = (λ holds. valued_found document (sym e ∙ holds), λ h. e ∙ valued_is document h)
-
-pub valued_or_not : IsValuedOrNot
-valued_or_not document =
-    elim (cases_Bool (is_valued document)) [
-      | inl holds ↦ inl (valued_found document holds)
-      | inr fails ↦ inr (λ valued. true≢false (sym (valued_is document valued) ∙ fails))
-    ]

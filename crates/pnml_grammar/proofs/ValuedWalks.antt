@@ -3,15 +3,16 @@
 use Rattle.std.proofs.Common.{◌≡◌, ℕ, ◌+◌, ◌-◌, ◌≤◌, Bool, true, false, cond, List, [], ◌∷◌, Option, Some, None, refl, subst, arith, inl, inr}
 use Rattle.std.specs.Prelude.{◌==◌, ◌&&◌, nat_le, count_by}
 use Rattle.std.specs.List.{AllByRecursion}
-use Rattle.std.proofs.lemmas.Bool.{cases_Bool, and_parts, leb-true, ltb-true, le-leb, lt-ltb, eqb-true, eq-eqb}
+use Rattle.std.proofs.lemmas.Bool.{cases_Bool, leb-true, ltb-true, le-leb, lt-ltb, eqb-true, eq-eqb}
 use Rattle.net_values.specs.declared.limits.TheConstants.{MAX_ARCS, MAX_OPEN_ELEMENTS, MAX_PAGES, MAX_PLACES, MAX_REFERENCES, MAX_TRANSITIONS}
 use Rattle.net_values.specs.declared.document.Item.{Item}
 use Rattle.net_values.specs.declared.document.Item.TheVariants.{Page, PageEnd, Place, Transition, RefPlace, RefTransition, Arc}
 use Rattle.net_values.specs.Items.{is_page, is_place, is_transition, is_arc, is_reference}
 use Rattle.pnml_grammar.specs.declared.walk.Walk.{Walk}
 use Rattle.pnml_grammar.specs.Valued.{PagesMatch, name_height, item_height, IsShallow}
-use Rattle.pnml_grammar.specs.ValuedTests.{has_values_in_range, beyond, may_count, is_low, past, walks}
+use Rattle.pnml_grammar.specs.ValuedTests.{has_values_in_range, beyond, may_count, is_low, after}
 use Rattle.pnml_grammar.proofs.EachLaws.{count_by_append}
+use Rattle.pnml_grammar.proofs.RunLaws.{some_is}
 
 -- ---- counts
 
@@ -159,28 +160,66 @@ pub record Walks (walk : Walk) (items : List Item) : Type 0 where
   pub shallow : IsShallow (walk.opened + 2) items
   pub within : AreWithin walk items
 
-past_found : (low count : Bool) (next : Walk) (items : List Item) → walks (cond (low && count) (Some next) None) items ≡ true → (low ≡ true) × (count ≡ true) × (walks (Some next) items ≡ true)
-past_found true true next items e = (refl, refl, e)
-past_found true false next items e = absurd cc
-past_found false count next items e = absurd cc
+-- the items are counted, and no page is open after them
+pub record EndsAt (walk : Walk) (items : List Item) (end : Walk) : Type 0 where
+  pub opened : end.opened ≡ 0
+  pub places : end.places ≡ walk.places + count_by is_place items
+  pub transitions : end.transitions ≡ walk.transitions + count_by is_transition items
+  pub arcs : end.arcs ≡ walk.arcs + count_by is_arc items
+  pub references : end.references ≡ walk.references + count_by is_reference items
+  pub pages : end.pages ≡ walk.pages + count_by is_page items
 
-pub walks_found : (walk : Walk) (items : List Item) → IsFit walk → walks (Some walk) items ≡ true → AllByRecursion (λ item. has_values_in_range item ≡ true) items × Walks walk items
-walks_found walk [] fit e = (tt, record { pages = eqb-true walk.opened 0 e; shallow = tt; within = omega (arith, fit) })
-walks_found walk (item ∷ items) fit e =
-    let both = and_parts (has_values_in_range item) (walks (past walk item) items) e in
-    let p = past_found (is_low walk item) (may_count walk item) (beyond walk item) items both.1 in
-    let rest = walks_found (beyond walk item) items (fit_after walk item fit p.0 p.1) p.2 in (
-      (both.0, rest.0),
-      record {
-        pages = pages_before walk item items p.1 rest.1.pages;
-        shallow = shallow_before walk item items p.0 p.1 rest.1.shallow;
-        within = within_before walk item items rest.1.within;
-      },
-    )
+ends_before : (walk : Walk) (item : Item) (items : List Item) (end : Walk) → EndsAt (beyond walk item) items end → EndsAt walk (item ∷ items) end
+ends_before walk item items end is = omega (arith, is, keeps_sums walk item items)
 
-pub walks_is : (walk : Walk) (items : List Item) → IsFit walk → AllByRecursion (λ item. has_values_in_range item ≡ true) items → Walks walk items → walks (Some walk) items ≡ true
-walks_is walk [] fit each is = eq-eqb walk.opened 0 is.pages
-walks_is walk (item ∷ items) fit each is =
+past_found : (range low count : Bool) (next end : Walk) (items : List Item) → cond range (after (cond (low && count) (Some next) None) items) None ≡ Some end
+    → (range ≡ true) × (low ≡ true) × (count ≡ true) × (after (Some next) items ≡ Some end)
+past_found true true true next end items e = (refl, refl, refl, e)
+past_found true true false next end items e = absurd cc
+past_found true false count next end items e = absurd cc
+past_found false low count next end items e = absurd cc
+
+closed_found : (closed : Bool) (walk end : Walk) → cond closed (Some walk) None ≡ Some end → (closed ≡ true) × (walk ≡ end)
+closed_found true walk end e = (refl, some_is walk end e)
+closed_found false walk end e = absurd cc
+
+-- what a walk to the end tells
+pub record Walked (walk : Walk) (items : List Item) (end : Walk) : Type 0 where
+  pub each : AllByRecursion (λ item. has_values_in_range item ≡ true) items
+  pub walks : Walks walk items
+  pub ends : EndsAt walk items end
+  pub fit : IsFit end
+
+pub after_found : (walk : Walk) (items : List Item) (end : Walk) → IsFit walk → after (Some walk) items ≡ Some end → Walked walk items end
+after_found walk [] end fit e =
+    let closed = closed_found (walk.opened == 0) walk end e in
+    let none = eqb-true walk.opened 0 closed.0 in
+    subst (λ w. Walked walk [] w) closed.1
+    (record { each = tt; walks = record { pages = none; shallow = tt; within = omega (arith, fit) }; ends = omega (arith, none); fit = fit })
+after_found walk (item ∷ items) end fit e =
+    let p = past_found (has_values_in_range item) (is_low walk item) (may_count walk item) (beyond walk item) end items e in
+    let rest = after_found (beyond walk item) items end (fit_after walk item fit p.1 p.2) p.3 in
+    record {
+      each = (p.0, rest.each);
+      walks = record {
+        pages = pages_before walk item items p.2 rest.walks.pages;
+        shallow = shallow_before walk item items p.1 p.2 rest.walks.shallow;
+        within = within_before walk item items rest.walks.within;
+      };
+      ends = ends_before walk item items end rest.ends;
+      fit = rest.fit;
+    }
+
+-- the walk to the end that is there
+pub record Arrives (walk : Walk) (items : List Item) : Type 0 where
+  pub end : Walk
+  pub is : after (Some walk) items ≡ Some end
+  pub ends : EndsAt walk items end
+  pub fit : IsFit end
+
+pub after_is : (walk : Walk) (items : List Item) → IsFit walk → AllByRecursion (λ item. has_values_in_range item ≡ true) items → Walks walk items → Arrives walk items
+after_is walk [] fit each is = record { end = walk; is = rw (eq-eqb walk.opened 0 is.pages) refl; ends = omega (arith, is.pages); fit = fit }
+after_is walk (item ∷ items) fit each is =
     let count = count_is walk item items is.within is.pages in
     let low = low_is walk item items fit is.shallow in
     let rest : Walks (beyond walk item) items = record {
@@ -188,4 +227,5 @@ walks_is walk (item ∷ items) fit each is =
       shallow = shallow_after walk item items count is.shallow;
       within = within_after walk item items is.within;
     } in
-    rw (each.0, low, count) (walks_is (beyond walk item) items (fit_after walk item fit low count) each.1 rest)
+    let arrives = after_is (beyond walk item) items (fit_after walk item fit low count) each.1 rest in
+    record { end = arrives.end; is = rw (each.0, low, count) arrives.is; ends = ends_before walk item items arrives.end arrives.ends; fit = arrives.fit }

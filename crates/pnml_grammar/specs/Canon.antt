@@ -96,8 +96,12 @@ net_text net =
 unfoldable pub declaration : List ℕ
 declaration = codes "<?xml version=" ++ 34 ∷ codes "1.0" ++ 34 ∷ codes " encoding=" ++ 34 ∷ codes "UTF-8" ++ 34 ∷ codes "?>"
 
--- the whole text; `pnml` always has a child, the net
+-- the nets in order
+abbrev pub nets_text : List NetTree → List ℕ
+nets_text nets = flat_map net_text nets
+
+-- the whole text; `pnml` is written as two tags, since a document has a net
 unfoldable pub canon : Document → List ℕ
 canon document =
-    declaration ++ start_tag (codes "pnml") (attribute (codes "xmlns") namespace) ++ net_text document.net ++ end_tag (codes "pnml")
+    declaration ++ start_tag (codes "pnml") (attribute (codes "xmlns") namespace) ++ nets_text document.nets ++ end_tag (codes "pnml")
     ++ 10 ∷ []

@@ -1,5 +1,6 @@
 -- What elements give to the element around them: the values of a document, from its leaves to its root.
 use Rattle.std.specs.Prelude.{ℕ, List, [], ◌∷◌, ◌++◌, Option, Some, None, codes, unwrap_or, option_to_list}
+use Rattle.net_values.specs.declared.document.Document.{Document}
 use Rattle.net_values.specs.declared.document.NetTree.{NetTree}
 use Rattle.net_values.specs.declared.document.Item.{Item}
 use Rattle.net_values.specs.declared.document.Item.TheVariants.{Page, PageEnd, Place, Transition, RefPlace, RefTransition, Arc}
@@ -10,9 +11,11 @@ use Rattle.pnml_grammar.specs.Elements.{element_named, value_of, context_in}
 use Rattle.pnml_grammar.specs.Numerals.{number_in}
 use Rattle.pnml_grammar.specs.Trees.{Node, element, empty_element, comment, instruction, cdata, characters, Nodes, none, ◌and◌}
 
--- what the children of an element give: nets; the items of a net; names and numbers, each with a value where
--- it has a text; the texts of a name; the bytes of such a text so far; and the numbers of a number's text
+-- what the children of an element give: the documents of roots; nets; the items of a net; names and numbers, each
+-- with a value where it has a text; the texts of a name; the bytes of such a text so far; and the numbers of a
+-- number's text
 pub record Content : Type 0 where
+  pub documents : List Document
   pub nets : List NetTree
   pub items : List Item
   pub names : List (Option (List ℕ))
@@ -22,12 +25,13 @@ pub record Content : Type 0 where
   pub numerals : List ℕ
 
 abbrev pub nothing : Content
-nothing = record { nets = []; items = []; names = []; numbers = []; texts = []; bytes = []; numerals = [] }
+nothing = record { documents = []; nets = []; items = []; names = []; numbers = []; texts = []; bytes = []; numerals = [] }
 
 -- one after the other
 infixr 20 ◌then◌
 abbrev pub ◌then◌ : Content → Content → Content
 a then b = record {
+  documents = a.documents ++ b.documents;
   nets = a.nets ++ b.nets;
   items = a.items ++ b.items;
   names = a.names ++ b.names;
@@ -59,7 +63,7 @@ one_item item = record nothing { items = item ∷ [] }
 -- what an element gives to the one around it, by what its children give
 abbrev pub gives : Context → List Attribute → Content → Content
 gives contexts.Document attributes c = nothing
-gives contexts.Pnml attributes c = record nothing { nets = c.nets }
+gives contexts.Pnml attributes c = record nothing { documents = record { nets = c.nets } ∷ [] }
 gives contexts.Net attributes c =
     record nothing { nets = record { id = id_in attributes; name = first_value c.names; items = c.items } ∷ [] }
 gives contexts.Page attributes c =

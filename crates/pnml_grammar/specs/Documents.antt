@@ -1,6 +1,6 @@
 -- The documents that tokens spell: whole elements, each with what may occur in it (ISO/IEC 15909-2).
 use Rattle.std.specs.Prelude.{◌≡◌, ℕ, ◌≤◌, Bool, true, false, ◌||◌, nat_le, List, [], ◌∷◌, ◌++◌, IsTrue, is_some, length, if◌then◌else◌}
-use Rattle.net_values.specs.declared.limits.TheConstants.{MAX_NAME_BYTES, MAX_OPEN_ELEMENTS}
+use Rattle.net_values.specs.declared.limits.TheConstants.{MAX_NAME_BYTES, MAX_NETS, MAX_OPEN_ELEMENTS}
 use Rattle.net_values.specs.declared.document.Document.{Document}
 use Rattle.pnml_grammar.specs.declared.element.Context.{Context}
 use Rattle.pnml_grammar.specs.declared.element.Context.TheVariants as contexts
@@ -14,9 +14,10 @@ use Rattle.pnml_grammar.specs.Trees.{Node, element, empty_element, comment, inst
 use Rattle.pnml_grammar.specs.Contents.{Content, nothing, nodes_content}
 use Rattle.pnml_grammar.specs.Counts.{nodes_counts, IsWithin}
 
--- the children of an element give one net, one name, one number and one text at most
+-- the children of an element give MAX_NETS nets at most, and one document, one name, one number and one text at most
 pub record HasFew (content : Content) : Type 0 where
-  pub nets : length content.nets ≤ 1
+  pub documents : length content.documents ≤ 1
+  pub nets : length content.nets ≤ MAX_NETS
   pub names : length content.names ≤ 1
   pub numbers : length content.numbers ≤ 1
   pub texts : length content.texts ≤ 1
@@ -75,7 +76,7 @@ pub record Spells (document : Document) (list : List Token) : Type 0 where
   pub each : EachChild contexts.Document nodes
   pub shallow : nodes_height nodes ≤ MAX_OPEN_ELEMENTS
   pub counted : IsWithin (nodes_counts contexts.Document nodes)
-  pub one : (nodes_content contexts.Document nodes).nets ≡ document.net ∷ []
+  pub one : (nodes_content contexts.Document nodes).documents ≡ document ∷ []
   pub valued : Valued document
 
 -- the bytes spell the document

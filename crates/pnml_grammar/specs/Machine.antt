@@ -1,7 +1,6 @@
 -- Reading token by token: what each token does to the open elements, and what a list of tokens leads to.
 use Rattle.std.specs.Prelude.{ℕ, List, [], ◌∷◌, Option, Some, None, is_none, if◌then◌else◌, false}
 use Rattle.net_values.specs.declared.document.Document.{Document}
-use Rattle.net_values.specs.declared.document.NetTree.{NetTree}
 use Rattle.pnml_grammar.specs.declared.element.Context.{Context}
 use Rattle.pnml_grammar.specs.declared.reason.Reason.{Reason}
 use Rattle.pnml_grammar.specs.declared.token.Token.{Token}
@@ -74,13 +73,13 @@ after_declaration (tokens.Declaration ∷ list) = list
 after_declaration list = list
 
 -- the document, where the root is closed
-abbrev pub the_one : List NetTree → Option Document
+abbrev pub the_one : List Document → Option Document
 the_one [] = None
-the_one (net ∷ []) = Some record { net = net }
-the_one (net ∷ other ∷ nets) = None
+the_one (document ∷ []) = Some document
+the_one (document ∷ other ∷ documents) = None
 
 abbrev pub finish_with : Frame → List Frame → Option Document
-finish_with top [] = the_one top.content.nets
+finish_with top [] = the_one top.content.documents
 finish_with top (frame ∷ frames) = None
 
 abbrev pub finish : State → Option Document

@@ -15,7 +15,7 @@
 --   M2 element out of place    an element that may not be in the open one at all
 --   M3 other root              a root other than `pnml`
 --   M4 element after the root  any element after the root
---   M5 second of its kind      a second net, name, initial marking, inscription or text of one element
+--   M5 second of its kind      a second name, initial marking, inscription or text of one element
 --   M6 stray characters        characters that aren't white space, outside `text` or after the number in it
 --   M7 stray CDATA section     a CDATA section outside the text of a name
 --   M8 end tag without start   an end tag that isn't that of the innermost open element
@@ -25,7 +25,7 @@
 -- the elements that are open where it occurs.
 use Rattle.std.specs.Prelude.{ℕ, ◌+◌, Bool, true, false, ◌&&◌, ◌||◌, not, nat_le, nat_lt, nat_eq, List, [], ◌∷◌, Option, Some, None, is_none, length, codes, if◌then◌else◌, bytes_eq}
 use Rattle.std.specs.List.{starts_with}
-use Rattle.net_values.specs.declared.limits.TheConstants.{MAX_ARCS, MAX_NAME_BYTES, MAX_OPEN_ELEMENTS, MAX_PAGES, MAX_PLACES, MAX_REFERENCES, MAX_TRANSITIONS}
+use Rattle.net_values.specs.declared.limits.TheConstants.{MAX_ARCS, MAX_NAME_BYTES, MAX_NETS, MAX_OPEN_ELEMENTS, MAX_PAGES, MAX_PLACES, MAX_REFERENCES, MAX_TRANSITIONS}
 use Rattle.pnml_grammar.specs.declared.element.ElementKind.{ElementKind}
 use Rattle.pnml_grammar.specs.declared.element.ElementKind.TheVariants as elements
 use Rattle.pnml_grammar.specs.declared.element.Context.{Context}
@@ -69,10 +69,9 @@ is_number_text contexts.InitialMarking elements.Text = true
 is_number_text contexts.Inscription elements.Text = true
 is_number_text _ _ = false
 
--- M4 and M5: a second root, or a second net, name, number or text of one element
+-- M4 and M5: a second root, or a second name, number or text of one element
 abbrev pub is_second : Context → Content → ElementKind → Bool
-is_second context content elements.Pnml = has_some content.nets
-is_second context content elements.Net = has_some content.nets
+is_second context content elements.Pnml = has_some content.documents
 is_second context content elements.Name = has_some content.names
 is_second context content elements.InitialMarking = has_some content.numbers
 is_second context content elements.Inscription = has_some content.numbers
@@ -88,6 +87,11 @@ is_pnml _ = false
 -- row 9: as many elements are open as may be
 unfoldable pub is_full : State → Bool
 is_full state = nat_le MAX_OPEN_ELEMENTS (length state.under)
+
+-- row 10: a net where MAX_NETS nets are whole. A net is in the root only, so no net is open there
+abbrev pub has_all_nets : Content → ElementKind → Bool
+has_all_nets content elements.Net = nat_le MAX_NETS (length content.nets)
+has_all_nets content _ = false
 
 -- row 10: one more element of the kind passes its count
 abbrev pub count_rows : Counts → ElementKind → List Row
@@ -111,6 +115,7 @@ tag_rows state empty attributes (Some element) =
     ∷ (is_second state.top.context state.top.content element, Misplaced)
     ∷ (empty && is_pnml element, Misplaced)
     ∷ (is_full state, TooDeep)
+    ∷ (has_all_nets state.top.content element, TooMany counted.Nets)
     ∷ count_rows state.counts element
 
 -- row 9 only, in skipped parts

@@ -1,12 +1,13 @@
 -- Documents whose values are in the ranges that this project reads and writes.
-use Rattle.std.specs.Prelude.{◌≡◌, ◌==◌, if◌then◌else◌, ℕ, ◌+◌, ◌-◌, ◌^◌, ◌≤◌, ◌<◌, List, [], ◌∷◌, Option, Some, None, IfSome, count_by, ◌⊎◌}
+use Rattle.std.specs.Prelude.{◌≡◌, ◌==◌, if◌then◌else◌, ℕ, ◌+◌, ◌-◌, ◌^◌, ◌≤◌, ◌<◌, List, [], ◌∷◌, Option, Some, None, IfSome, count_by, length, ◌⊎◌}
 use Rattle.std.specs.List.{AllByRecursion}
-use Rattle.net_values.specs.declared.limits.TheConstants.{MAX_ARCS, MAX_OPEN_ELEMENTS, MAX_PAGES, MAX_PLACES, MAX_REFERENCES, MAX_TRANSITIONS}
+use Rattle.net_values.specs.declared.limits.TheConstants.{MAX_ARCS, MAX_NETS, MAX_OPEN_ELEMENTS, MAX_PAGES, MAX_PLACES, MAX_REFERENCES, MAX_TRANSITIONS}
 use Rattle.net_values.specs.declared.document.Document.{Document}
+use Rattle.net_values.specs.declared.document.NetTree.{NetTree}
 use Rattle.net_values.specs.declared.document.Item.{Item}
 use Rattle.net_values.specs.declared.document.Item.TheVariants.{Page, PageEnd, Place, Transition, RefPlace, RefTransition, Arc}
 use Rattle.net_values.specs.Characters.{IsId, IsNameValue}
-use Rattle.net_values.specs.Items.{is_page, is_place, is_transition, is_arc, is_reference}
+use Rattle.net_values.specs.Items.{all_items, is_page, is_place, is_transition, is_arc, is_reference}
 
 -- a name, where there is one
 abbrev pub IsNameIfAny : Option (List ℕ) → Type 0
@@ -52,7 +53,7 @@ IsShallow opened (Page page ∷ items) = (opened + item_height (Page page) ≤ M
 IsShallow opened (PageEnd ∷ items) = IsShallow (opened - 1) items
 IsShallow opened (item ∷ items) = (opened + item_height item ≤ MAX_OPEN_ELEMENTS) × IsShallow opened items
 
--- the counts of a document are within the limits
+-- the counts of items are within the limits
 pub record IsWithinLimits (items : List Item) : Type 0 where
   pub places : count_by is_place items ≤ MAX_PLACES
   pub transitions : count_by is_transition items ≤ MAX_TRANSITIONS
@@ -60,14 +61,21 @@ pub record IsWithinLimits (items : List Item) : Type 0 where
   pub references : count_by is_reference items ≤ MAX_REFERENCES
   pub pages : count_by is_page items ≤ MAX_PAGES
 
--- a valued document; `pnml` and `net` are the two elements that are open around its items
+-- a net whose values are in range and whose pages match; `pnml` and `net` are the two elements that are open around
+-- its items
+pub record IsValuedNet (net : NetTree) : Type 0 where
+  pub id : IsId net.id
+  pub name : IsNameIfAny net.name
+  pub items : AllByRecursion HasValuesInRange net.items
+  pub pages : PagesMatch 0 net.items
+  pub shallow : IsShallow 2 net.items
+
+-- a valued document: 1 to MAX_NETS valued nets, with counts over all of them together
 pub record Valued (document : Document) : Type 0 where
-  pub id : IsId document.net.id
-  pub name : IsNameIfAny document.net.name
-  pub items : AllByRecursion HasValuesInRange document.net.items
-  pub pages : PagesMatch 0 document.net.items
-  pub shallow : IsShallow 2 document.net.items
-  pub limits : IsWithinLimits document.net.items
+  pub some : 1 ≤ length document.nets
+  pub few : length document.nets ≤ MAX_NETS
+  pub nets : AllByRecursion IsValuedNet document.nets
+  pub limits : IsWithinLimits (all_items document.nets)
 
 -- a document is valued, or it isn't
 abbrev pub IsValuedOrNot : Type 0

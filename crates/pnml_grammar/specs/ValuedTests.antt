@@ -1,9 +1,10 @@
--- `Valued` as a test, and as a walk over the items that counts what was passed.
+-- `Valued` as a test, and as a walk over the items of all nets that counts what was passed.
 use Rattle.std.specs.Prelude.{ℕ, ◌+◌, ◌-◌, ◌^◌, ◌==◌, ◌&&◌, not, nat_le, nat_lt, Bool, true, false, if◌then◌else◌, List, [], ◌∷◌, Option, Some, None, length, chars}
 use Rattle.std.specs.List.{list_all}
 use Rattle.std.specs.Str.{is_utf8}
-use Rattle.net_values.specs.declared.limits.TheConstants.{MAX_ARCS, MAX_ID_BYTES, MAX_NAME_BYTES, MAX_OPEN_ELEMENTS, MAX_PAGES, MAX_PLACES, MAX_REFERENCES, MAX_TRANSITIONS}
+use Rattle.net_values.specs.declared.limits.TheConstants.{MAX_ARCS, MAX_ID_BYTES, MAX_NAME_BYTES, MAX_NETS, MAX_OPEN_ELEMENTS, MAX_PAGES, MAX_PLACES, MAX_REFERENCES, MAX_TRANSITIONS}
 use Rattle.net_values.specs.declared.document.Document.{Document}
+use Rattle.net_values.specs.declared.document.NetTree.{NetTree}
 use Rattle.net_values.specs.declared.document.Item.{Item}
 use Rattle.net_values.specs.declared.document.Item.TheVariants.{Page, PageEnd, Place, Transition, RefPlace, RefTransition, Arc}
 use Rattle.pnml_grammar.specs.declared.walk.Walk.{Walk}
@@ -74,12 +75,22 @@ is_low walk item = nat_le walk.opened (MAX_OPEN_ELEMENTS - 2 - item_height item)
 abbrev pub past : Walk → Item → Option Walk
 past walk item = if is_low walk item && may_count walk item then Some (beyond walk item) else None
 
--- the items can be passed, and no page is open after them
-abbrev pub walks : Option Walk → List Item → Bool
-walks None items = false
-walks (Some walk) [] = walk.opened == 0
-walks (Some walk) (item ∷ items) = has_values_in_range item && walks (past walk item) items
+-- after items that can all be passed, where no page is open after them
+abbrev pub after : Option Walk → List Item → Option Walk
+after None items = None
+after (Some walk) [] = if walk.opened == 0 then Some walk else None
+after (Some walk) (item ∷ items) = if has_values_in_range item then after (past walk item) items else None
+
+-- after one net
+abbrev pub after_net : Walk → NetTree → Option Walk
+after_net walk net = if is_valued_id net.id && is_valued_name_if_any net.name then after (Some walk) net.items else None
+
+-- the nets can be passed, one after the other
+abbrev pub walks : Option Walk → List NetTree → Bool
+walks None nets = false
+walks (Some walk) [] = true
+walks (Some walk) (net ∷ nets) = walks (after_net walk net) nets
 
 unfoldable pub is_valued : Document → Bool
 is_valued document =
-    is_valued_id document.net.id && is_valued_name_if_any document.net.name && walks (Some start) document.net.items
+    nat_le 1 (length document.nets) && nat_le (length document.nets) MAX_NETS && walks (Some start) document.nets

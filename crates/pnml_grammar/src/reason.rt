@@ -21,5 +21,6 @@ pub enum Counted {
     Arcs,
     References,
     Pages,
+    Nets,
     NameBytes,
 }

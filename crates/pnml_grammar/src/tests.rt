@@ -1,6 +1,6 @@
 use super::*;
 use net_values::{
-    ArcNode, Document, Item, Items, NetTree, NoMemory, PageNode, PlaceNode, RefNode, Text,
+    ArcNode, Document, Item, Items, NetTree, Nets, NoMemory, PageNode, PlaceNode, RefNode, Text,
     TransitionNode,
 };
 use std::alloc::Global;
@@ -9,7 +9,7 @@ use std::test::Fail;
 // A text is a piece, so many times.
 type Times<'a> = (&'a str, usize);
 
-// A document whose net and items have one id and one name. So many pages are in one another, and in the
+// A net that has one id and one name with its items. So many pages are in one another, and in the
 // innermost a shape, of which each letter is an item, as `item` tells.
 #[derive(Clone, Copy)]
 struct Row<'a> {
@@ -136,18 +136,24 @@ fn item(alloc: Global, row: Row, letter: u8) -> Result<Item, NoMemory> {
     }
 }
 
-fn document(alloc: Global, row: Row) -> Result<Document, NoMemory> {
+fn net(alloc: Global, row: Row) -> Result<NetTree, NoMemory> {
     let mut items = Items::new(alloc);
     put(alloc, &mut items, row, ("(", row.pages))?;
     put(alloc, &mut items, row, row.shape)?;
     put(alloc, &mut items, row, (")", row.pages))?;
-    Ok(Document {
-        net: NetTree {
-            id: text(alloc, row.id)?,
-            name: name(alloc, row.name)?,
-            items,
-        },
+    Ok(NetTree {
+        id: text(alloc, row.id)?,
+        name: name(alloc, row.name)?,
+        items,
     })
+}
+
+fn document(alloc: Global, row: Row, count: usize) -> Result<Document, NoMemory> {
+    let mut nets = Nets::new(alloc);
+    for _ in 0..count {
+        nets.push(net(alloc, row)?)?;
+    }
+    Ok(Document { nets })
 }
 
 fn put(alloc: Global, items: &mut Items, row: Row, (shape, times): Times) -> Result<(), NoMemory> {
@@ -170,11 +176,41 @@ fn valued_documents_are_told(rt: HostRuntime) -> Result<(), Fail> {
             shape,
         };
         assert_eq!(rt;
-            is_valued(&document(alloc, row)?),
+            is_valued(&document(alloc, row, 1)?),
             valued,
             "{pages} pages around {}",
             shape.0
         );
+    }
+    Ok(())
+}
+
+// so many nets, the shape of each, and whether the document is valued
+const NETS: [(usize, Times<'static>, bool); 9] = [
+    (0, ("", 0), false),
+    (64, ("", 0), true),
+    (65, ("", 0), false),
+    // counts of all nets together
+    (2, ("p", 1024), true),
+    (2, ("p", 1025), false),
+    (64, ("ptrs()", 16), true),
+    (64, ("()", 17), false),
+    // each net closes its own pages
+    (2, ("()", 1), true),
+    (2, ("(", 1), false),
+];
+
+#[test]
+fn nets_are_told(rt: HostRuntime) -> Result<(), Fail> {
+    let alloc = rt.alloc();
+    for (count, shape, valued) in NETS {
+        let row = Row {
+            id: ("i", 1),
+            name: None,
+            pages: 0,
+            shape,
+        };
+        assert_eq!(rt; is_valued(&document(alloc, row, count)?), valued);
     }
     Ok(())
 }

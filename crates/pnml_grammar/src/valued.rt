@@ -1,39 +1,64 @@
 ghost use Rattle.std.specs.Prelude.{◌≡◌, ◌↔◌, Some, IsTrue, chars};
 ghost use Rattle.std.specs.List.{list_all};
 ghost use Rattle.pnml_grammar.specs.Valued.{Valued};
-ghost use Rattle.pnml_grammar.specs.ValuedTests.{is_id_character, is_valued_id, is_valued_name, is_valued_name_if_any, has_values_in_range, start, walks};
+ghost use Rattle.pnml_grammar.specs.ValuedTests.{is_id_character, is_valued_id, is_valued_name, is_valued_name_if_any, has_values_in_range, start, after, after_net, walks};
 
 use crate::legal::{are_legal, is_legal};
 use crate::walk::Walk;
-use net_values::{Document, Item, MAX_ID_BYTES, MAX_NAME_BYTES, Text};
+use net_values::{Document, Item, MAX_ID_BYTES, MAX_NAME_BYTES, MAX_NETS, NetTree, Text};
 
-/// Whether the values of the document are in range: ids of 1 to [`MAX_ID_BYTES`] bytes of legal characters without
-/// spaces and control characters, names of at most [`MAX_NAME_BYTES`] bytes of legal characters, weights from 1 on,
-/// pages that match, at most [`MAX_PLACES`](net_values::MAX_PLACES) places and as many of the other kinds as
-/// net_values says, and at most [`MAX_OPEN_ELEMENTS`](net_values::MAX_OPEN_ELEMENTS) elements open in the canonical
-/// text. It takes no memory.
+/// Whether the values of the document are in range: 1 to [`MAX_NETS`] nets, ids of 1 to [`MAX_ID_BYTES`] bytes of legal
+/// characters without spaces and control characters, names of at most [`MAX_NAME_BYTES`] bytes of legal characters,
+/// weights from 1 on, pages that match, in all nets together at most [`MAX_PLACES`](net_values::MAX_PLACES) places and
+/// as many of the other kinds as net_values says, and at most [`MAX_OPEN_ELEMENTS`](net_values::MAX_OPEN_ELEMENTS)
+/// elements open in the canonical text. It takes no memory.
 pub fn is_valued(document: &Document) -> bool
     ensures { IsTrue result ↔ Valued document.now }
 {
-    let net = &document.net;
-    is_valued_id(&net.id) && is_valued_name_if_any(&net.name) && are_valued(net.items.as_slice())
+    let nets = document.nets.as_slice();
+    1 <= nets.len() && nets.len() <= MAX_NETS && are_valued(nets)
 }
 
-/// Whether the items of a net are in range, match and are within the limits.
-fn are_valued(items: &[Item]) -> bool
-    ensures { result ≡ walks (Some start) items.now }
+/// Whether the nets are in range, and within the limits together.
+fn are_valued(nets: &[NetTree]) -> bool
+    ensures { result ≡ walks (Some start) nets.now }
 {
     let mut walk = Walk::new();
-    for item in items {
-        if !has_values_in_range(item) {
-            return false;
-        }
-        match walk.past(item) {
+    for net in nets {
+        match after_net(walk, net) {
             Some(beyond) => walk = beyond,
             None => return false,
         }
     }
-    walk.opened == 0
+    true
+}
+
+/// After the items of one net more, where that is in range and its pages match.
+fn after_net(walk: Walk, net: &NetTree) -> Option<Walk>
+    ensures { result ≡ after_net walk net.now }
+{
+    if is_valued_id(&net.id) && is_valued_name_if_any(&net.name) {
+        after_items(walk, net.items.as_slice())
+    } else {
+        None
+    }
+}
+
+/// After the items, where they are in range and match.
+fn after_items(walk: Walk, items: &[Item]) -> Option<Walk>
+    ensures { result ≡ after (Some walk) items.now }
+{
+    let mut walk = walk;
+    for item in items {
+        if !has_values_in_range(item) {
+            return None;
+        }
+        match walk.past(item) {
+            Some(beyond) => walk = beyond,
+            None => return None,
+        }
+    }
+    if walk.opened == 0 { Some(walk) } else { None }
 }
 
 fn has_values_in_range(item: &Item) -> bool

@@ -18,7 +18,7 @@ pub(crate) struct Walk {
 }
 
 impl Walk {
-    /// Before the first item of a net.
+    /// Before the first item of the first net.
     pub(crate) fn new() -> Walk
         ensures { result ≡ start }
     {

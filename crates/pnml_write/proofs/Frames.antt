@@ -1,9 +1,9 @@
--- The net around the items, and the document around the net. The constants have nothing to be escaped.
+-- A net around its items, and the document around the nets. The constants have nothing to be escaped.
 use Rattle.std.proofs.Common.{◌≡◌, ℕ, List, [], ◌∷◌, ◌++◌, refl, sym, ap, ◌∙◌, append_assoc}
 use Rattle.std.specs.Prelude.{codes}
 use Rattle.net_values.specs.declared.document.Document.{Document}
 use Rattle.net_values.specs.declared.document.NetTree.{NetTree}
-use Rattle.pnml_grammar.specs.Canon.{escaped, attribute, start_tag, end_tag, id_attribute, name_text, items_text, net_type, namespace, net_text, declaration, canon}
+use Rattle.pnml_grammar.specs.Canon.{escaped, attribute, start_tag, end_tag, id_attribute, name_text, items_text, net_type, namespace, net_text, nets_text, declaration, canon}
 use Rattle.pnml_write.specs.declared.document.TheConstants.{HEAD, NET_TYPE}
 use Rattle.pnml_write.specs.Elements.{after_attributes}
 use Rattle.pnml_write.proofs.Labels.{element_parts}
@@ -23,12 +23,12 @@ head_is : HEAD.now ≡ declaration ++ start_tag (codes "pnml") (attribute (codes
 unfolding declaration start_tag attribute escaped
 head_is = refl
 
-pub canon_is : (document : Document) → HEAD.now ++ net_text document.net ++ codes "</pnml>\n" ≡ canon document
+pub canon_is : (document : Document) → HEAD.now ++ nets_text document.nets ++ codes "</pnml>\n" ≡ canon document
 unfolding canon end_tag
 canon_is document =
     let front = declaration ++ start_tag (codes "pnml") (attribute (codes "xmlns") namespace) in
-    ap (λ (t : List ℕ). t ++ net_text document.net ++ codes "</pnml>\n") head_is
-    ∙ sym (append_assoc (front ++ net_text document.net) (end_tag (codes "pnml")) (10 ∷ []))
+    ap (λ (t : List ℕ). t ++ nets_text document.nets ++ codes "</pnml>\n") head_is
+    ∙ sym (append_assoc (front ++ nets_text document.nets) (end_tag (codes "pnml")) (10 ∷ []))
 
 -- three pieces after nothing
 pub three_pieces : (empty first second third head net end : List ℕ) → empty ≡ [] → first ≡ empty ++ head → second ≡ first ++ net → third ≡ second ++ end → third ≡ head ++ net ++ end

@@ -1,5 +1,5 @@
 ghost use Rattle.std.specs.Prelude.{◌≡◌, ◌++◌, IfOk, OnOk, codes};
-ghost use Rattle.pnml_grammar.specs.Canon.{canon, name_text, items_text, net_text};
+ghost use Rattle.pnml_grammar.specs.Canon.{canon, name_text, items_text, net_text, nets_text};
 ghost use Rattle.pnml_grammar.specs.Documents.{DocBytes};
 ghost use Rattle.pnml_grammar.specs.Valued.{Valued};
 ghost use Rattle.pnml_write.specs.Elements.{after_attributes};
@@ -25,9 +25,19 @@ pub fn canonical(alloc: Global, document: &Document) -> Result<Text, NoMemory>
 {
     let mut text = Text::new(alloc);
     text.push(HEAD)?;
-    push_net(&mut text, &document.net)?;
+    push_nets(&mut text, document.nets.as_slice())?;
     text.push("</pnml>\n")?;
     Ok(text)
+}
+
+/// Appends the nets in order.
+fn push_nets(text: &mut Text, nets: &[NetTree]) -> Result<(), NoMemory>
+    ensures { OnOk result (text.new ≡ text.old ++ nets_text nets.now) }
+{
+    for net in nets {
+        push_net(text, net)?;
+    }
+    Ok(())
 }
 
 /// Appends a net.

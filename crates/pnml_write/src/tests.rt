@@ -1,6 +1,6 @@
 use super::*;
 use net_values::{
-    ArcNode, Document, Item, Items, NetTree, NoMemory, PageNode, PlaceNode, RefNode, Text,
+    ArcNode, Document, Item, Items, NetTree, Nets, NoMemory, PageNode, PlaceNode, RefNode, Text,
     TransitionNode,
 };
 use std::alloc::Global;
@@ -73,35 +73,40 @@ fn item(alloc: Global, told: &Told) -> Result<Item, NoMemory> {
     }
 }
 
-fn document(alloc: Global, net: Named, told: &[Told]) -> Result<Document, NoMemory> {
+fn net(alloc: Global, net: Named, told: &[Told]) -> Result<NetTree, NoMemory> {
     let mut items = Items::new(alloc);
     for row in told {
         items.push(item(alloc, row)?)?;
     }
-    Ok(Document {
-        net: NetTree {
-            id: text(alloc, net.0)?,
-            name: name(alloc, net.1)?,
-            items,
-        },
+    Ok(NetTree {
+        id: text(alloc, net.0)?,
+        name: name(alloc, net.1)?,
+        items,
     })
 }
 
-// Compares a document's canonical text with the net's own, put into the frame that every document has.
+// Compares the canonical text of a document of one net with the net's own.
 fn check(
     rt: &impl Abort,
     alloc: Global,
-    net: Named,
+    named: Named,
     told: &[Told],
     wanted: &str,
 ) -> Result<(), NoMemory> {
+    let mut nets = Nets::new(alloc);
+    nets.push(net(alloc, named, told)?)?;
+    check_nets(rt, alloc, nets, wanted)
+}
+
+// Compares a document's canonical text with that of its nets, put into the frame that every document has.
+fn check_nets(rt: &impl Abort, alloc: Global, nets: Nets, wanted: &str) -> Result<(), NoMemory> {
     let mut whole = text(
         alloc,
         "<?xml version=\"1.0\" encoding=\"UTF-8\"?><pnml xmlns=\"http://www.pnml.org/version-2009/grammar/pnml\">",
     )?;
     whole.push(wanted)?;
     whole.push("</pnml>\n")?;
-    let written = canonical(alloc, &document(alloc, net, told)?)?;
+    let written = canonical(alloc, &Document { nets })?;
     assert_eq!(rt; written.as_bytes(), whole.as_bytes());
     Ok(())
 }
@@ -169,6 +174,21 @@ fn canonical_text_spells_every_document(rt: HostRuntime) -> Result<(), Fail> {
             Told::PageEnd,
         ],
         "<net id=\"n\" type=\"http://www.pnml.org/version-2009/grammar/ptnet\"><page id=\"a\"><name><text>outer</text></name><page id=\"b\"><transition id=\"t\"/><page id=\"c\"/></page><page id=\"d\"><name><text>empty</text></name></page></page></net>",
+    )?;
+    Ok(())
+}
+
+#[test]
+fn nets_are_written_in_order(rt: HostRuntime) -> Result<(), Fail> {
+    let alloc = rt.alloc();
+    let mut nets = Nets::new(alloc);
+    nets.push(net(alloc, Named("n", Some("one")), &[])?)?;
+    nets.push(net(alloc, Named("m", None), &[Told::Place(Named("p", None), 0)])?)?;
+    check_nets(
+        &rt,
+        alloc,
+        nets,
+        "<net id=\"n\" type=\"http://www.pnml.org/version-2009/grammar/ptnet\"><name><text>one</text></name></net><net id=\"m\" type=\"http://www.pnml.org/version-2009/grammar/ptnet\"><place id=\"p\"/></net>",
     )?;
     Ok(())
 }

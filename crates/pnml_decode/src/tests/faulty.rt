@@ -65,7 +65,7 @@ pub(super) const IN_THE_ROOT: [Faulty; 7] = [
     (b"", b"<place id='p'/>", Misplaced),
     (
         b"<net id='n' type='http://www.pnml.org/version-2009/grammar/ptnet'/>",
-        b"<net id='n' type='http://www.pnml.org/version-2009/grammar/ptnet'/>",
+        b"<name/>",
         Misplaced,
     ),
 ];

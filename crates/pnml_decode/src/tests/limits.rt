@@ -1,4 +1,4 @@
-use super::{CLOSING, OPENING, fault, joined};
+use super::{CLOSING, NEXT_NET, OPENING, fault, joined};
 use crate::{Counted, DocFault, Reason};
 use std::alloc::{AllocError, Global};
 use std::process::Abort;
@@ -220,6 +220,32 @@ fn check_count(rt: &impl Abort, alloc: Global, count: &Count) -> Result<(), Allo
 fn elements_are_counted(rt: HostRuntime) -> Result<(), Fail> {
     for count in COUNTS.iter() {
         check_count(&rt, rt.alloc(), count)?;
+    }
+    Ok(())
+}
+
+/// The counts are of all nets together: as many pieces as may occur are decoded, the last one in a net of its own, and
+/// the tag after them is refused.
+fn check_count_over_nets(rt: &impl Abort, alloc: Global, count: &Count) -> Result<(), AllocError> {
+    let pieces = repeated(alloc, count.piece, count.limit.saturating_sub(1))?;
+    let mut front = joined(alloc, OPENING, pieces.as_slice())?;
+    front.extend_from_slice(NEXT_NET)?;
+    front.extend_from_slice(count.piece)?;
+    let whole = joined(alloc, front.as_slice(), CLOSING)?;
+    assert_eq!(rt; fault(alloc, whole.as_slice()), None);
+    let more = joined(alloc, front.as_slice(), count.next)?;
+    let refused = DocFault::At(front.len() as u64, count.reason);
+    assert_eq!(rt; fault(alloc, more.as_slice()), Some(refused));
+    Ok(())
+}
+
+#[test]
+fn counts_go_on_from_net_to_net(rt: HostRuntime) -> Result<(), Fail> {
+    for count in COUNTS.iter() {
+        // the arcs would take long
+        if count.before.is_empty() && count.after.is_empty() && count.limit <= 4_096 {
+            check_count_over_nets(&rt, rt.alloc(), count)?;
+        }
     }
     Ok(())
 }

@@ -1,5 +1,5 @@
 /// Whole inputs that spell a document.
-pub(super) const DOCUMENTS: [&[u8]; 7] = [
+pub(super) const DOCUMENTS: [&[u8]; 8] = [
     b"<pnml xmlns='http://www.pnml.org/version-2009/grammar/pnml'><net id='n' type='http://www.pnml.org/version-2009/grammar/ptnet'/></pnml>",
     b"\xEF\xBB\xBF<pnml xmlns='http://www.pnml.org/version-2009/grammar/pnml'><net id='n' type='http://www.pnml.org/version-2009/grammar/ptnet'/></pnml>",
     b"<?xml version='1.0'?><pnml xmlns='http://www.pnml.org/version-2009/grammar/pnml'><net id='n' type='http://www.pnml.org/version-2009/grammar/ptnet'/></pnml>",
@@ -7,6 +7,7 @@ pub(super) const DOCUMENTS: [&[u8]; 7] = [
     b" <pnml xmlns='http://www.pnml.org/version-2009/grammar/pnml'><net id='n' type='http://www.pnml.org/version-2009/grammar/ptnet'/></pnml>",
     b"<?a?><pnml xmlns='http://www.pnml.org/version-2009/grammar/pnml'><net id='n' type='http://www.pnml.org/version-2009/grammar/ptnet'/></pnml> \r\n",
     b"<pnml xmlns='http://www.pnml.org/version-2009/grammar/pnml'><graphics/><net id='n' type='http://www.pnml.org/version-2009/grammar/ptnet'></net><toolspecific/></pnml >",
+    b"<pnml xmlns='http://www.pnml.org/version-2009/grammar/pnml'><net id='n' type='http://www.pnml.org/version-2009/grammar/ptnet'/> <!----><graphics/><net id='n' type='http://www.pnml.org/version-2009/grammar/ptnet'></net></pnml>",
 ];
 
 /// What a net may have.
