@@ -53,3 +53,4 @@ pub mod CanonItems
 pub mod CanonPages
 pub mod CanonReading
 pub mod CanonLaws
+pub mod OneNetLaws

@@ -22,6 +22,7 @@ pub mod Documents
 pub mod OpenElements
 pub mod Reasons
 pub mod FirstFault
+pub mod OneNet
 -- Functions on lists that find the same from the front, in the way of the code. Nothing hangs on them but proofs: only
 -- clauses of private functions and lemmas cite them, and each is proved to find what the definitions say.
 pub mod Runs

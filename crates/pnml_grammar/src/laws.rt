@@ -2,6 +2,7 @@ ghost use Rattle.pnml_grammar.specs.CanonicalTexts.{SpellTheirDocuments, TellDoc
 ghost use Rattle.pnml_grammar.specs.Documents.{SpellOneDocument};
 ghost use Rattle.pnml_grammar.specs.FirstFault.{HaveOneAnswer, HaveSomeAnswer, RowsTellFaults};
 ghost use Rattle.pnml_grammar.specs.Numerals.{AreRead};
+ghost use Rattle.pnml_grammar.specs.OneNet.{StaysForOneNet};
 ghost use Rattle.pnml_grammar.specs.Tokens.{HasOneToken, HasTokenOrNone};
 ghost use Rattle.pnml_grammar.specs.Valued.{IsValuedOrNot};
 
@@ -53,4 +54,10 @@ pub fn canonical_text_spells_its_document()
 /// Canonical texts of valued documents are equal exactly where the documents are equal.
 pub fn canonical_text_tells_documents_apart()
     ensures { TellDocumentsApart }
+{}
+
+/// Bytes that spell a document of one net, as a grammar defines it in which a document is one net, spell the document
+/// that has that net only, and its canonical text is the same.
+pub fn one_net_is_spelled_as_before()
+    ensures { StaysForOneNet }
 {}

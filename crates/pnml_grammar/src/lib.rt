@@ -17,7 +17,7 @@ pub use element::{AttributeKind, Context, ElementKind};
 pub use laws::{
     a_document_is_valued_or_not, a_document_or_a_fault, a_reason_at_each_fault, a_token_or_none,
     canonical_text_spells_its_document, canonical_text_tells_documents_apart, numerals_are_read,
-    one_answer, one_document, one_token,
+    one_answer, one_document, one_net_is_spelled_as_before, one_token,
 };
 pub use legal::{is_legal_character, is_legal_text};
 pub use names::{ATTRIBUTES, ELEMENTS, Names, attribute_names, element_names, find, find_in};
