@@ -57,3 +57,11 @@ outside_zero x y r s either i u out =
       | inl some ↦ absurd (true≢false (sym (u.members i ∙ lt-ltb 0 (slice_index r i + slice_index s i) some) ∙ out))
       | inr none ↦ both_zero x (slice_index r i) y (slice_index s i) none
     ]
+
+-- a row is 0 outside its support
+pub no_entry : (row : List ℕ) (set : List Bool) (i : ℕ) → set ≡ support_of row → has set i ≡ false → slice_index row i ≡ 0
+no_entry row set i is out =
+    elim (cases_lt 0 (slice_index row i)) [
+      | inl some ↦ absurd (true≢false (sym (ap (λ (t : List Bool). has t i) is ∙ support_has row i ∙ lt-ltb 0 (slice_index row i) some) ∙ out))
+      | inr none ↦ omega arith
+    ]

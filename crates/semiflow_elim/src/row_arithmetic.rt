@@ -15,7 +15,7 @@ pub(crate) enum RowFault {
     Wide,
 }
 
-/// How many positions are filled at a time.
+/// How many positions are read at a time.
 const RUN: usize = 16;
 
 /// The greatest common divisor of two numbers, by Euclid's algorithm.
@@ -59,14 +59,31 @@ pub(crate) fn divide_all(entries: &mut [u128], divisor: u128)
     }
 }
 
-/// A number that no entry exceeds: the largest entry, or 0 where there is none.
-pub(crate) fn largest(entries: &[u128]) -> u128
-    ensures { (i : ℕ) → slice_index entries.now i ≤ result }
+/// A number that no entry of a row exceeds: the largest entry, or 0 where there is none. Where the row is 0 nothing is
+/// read.
+pub(crate) fn largest(row: &Vector) -> u128
+    ensures { (i : ℕ) → slice_index row.now i ≤ result }
 {
+    let entries = row.as_slice();
     let mut largest = 0;
-    for entry in entries {
-        if *entry > largest {
-            largest = *entry;
+    let mut from = 0;
+    'runs: while let Some(first) = row.support().first_from(from) {
+        from = first + RUN.min(entries.len() - first);
+        largest = largest_between(entries, first, from, largest);
+    }
+    largest
+}
+
+/// The largest of a number and the entries at the positions from one to another.
+fn largest_between(entries: &[u128], from: usize, to: usize, least: u128) -> u128
+    requires { to ≤ length entries.now }
+    ensures least { least ≤ result }
+    ensures between { (i : ℕ) → from ≤ i → i < to → slice_index entries.now i ≤ result }
+{
+    let mut largest = least;
+    for i in from..to {
+        if entries[i] > largest {
+            largest = entries[i];
         }
     }
     largest

@@ -41,7 +41,7 @@ fn sums_at(row: &Vector, carried: &[ColumnSums], column: usize) -> RowSums
     let largest = if own.gain == own.loss {
         0
     } else {
-        largest(row.as_slice())
+        largest(row)
     };
     RowSums {
         gain: own.gain,
