@@ -175,6 +175,8 @@ def main():
     parser.add_argument("--out", default=os.path.join(ROOT, "docs"))
     parser.add_argument("peers", nargs="*")
     words = parser.parse_args()
+    if not shutil.which("gnuplot"):
+        raise SystemExit("gnuplot draws the plots: apt-get install gnuplot-nox")
     peers = [peer for peer in (word.split("=", 1) for word in words.peers) if shutil.which(peer[1])]
     os.makedirs(os.path.join(words.out, "performance"), exist_ok=True)
     results = {}
