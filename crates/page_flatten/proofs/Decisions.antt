@@ -22,7 +22,7 @@ use Rattle.page_flatten.specs.Tables.{table_ids, EndsIn, EndsAt, AreLinksOf}
 use Rattle.page_flatten.proofs.Lists.{some_is, same_read}
 use Rattle.page_flatten.proofs.Passes.{first_only, first_after, first_before}
 use Rattle.page_flatten.proofs.ChainLaws.{short, goes_on, followed_none, followed_off, ends_at_number}
-use Rattle.page_flatten.proofs.LinkLaws.{distinct_push}
+use Rattle.page_flatten.proofs.NumberLaws.{distinct_push}
 use Rattle.page_flatten.proofs.Meaning.{ends_by_id, resolves_by_id}
 use Rattle.page_flatten.proofs.WholeLaws.{distinct_entries}
 use Rattle.page_flatten.proofs.OneAnswer.{one_end_of}

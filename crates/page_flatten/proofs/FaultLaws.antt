@@ -4,7 +4,7 @@ use Rattle.std.proofs.Common.{◌≡◌, sym, subst, ℕ, List, [], ◌∷◌, O
 use Rattle.net_values.specs.declared.document.RefNode.{RefNode}
 use Rattle.net_values.specs.declared.document.ArcNode.{ArcNode}
 use Rattle.page_flatten.specs.declared.fault.FlatFault.{FlatFault}
-use Rattle.page_flatten.specs.declared.fault.FlatFault.TheVariants.{NoMemory, DuplicateId, UnknownId, RefKind, RefCycle, ArcEnds}
+use Rattle.page_flatten.specs.declared.fault.FlatFault.TheVariants.{NoMemory, DuplicateId, UnknownId, RefKind, RefCycle, ArcEnds, NoNet}
 use Rattle.page_flatten.specs.declared.links.Link.{Link}
 use Rattle.net_values.specs.declared.node_kind.NodeKind.{NodeKind}
 use Rattle.page_flatten.specs.Elements.{Mention, ReferenceTo, reference_of}
@@ -31,6 +31,7 @@ module _ (table : List (List ℕ × Option NodeKind)) where
   unknown_moves xs ys moves (RefKind id) h = absurd h
   unknown_moves xs ys moves (RefCycle id) h = absurd h
   unknown_moves xs ys moves (ArcEnds id) h = absurd h
+  unknown_moves xs ys moves (NoNet count) h = absurd h
 
   pub wrong_kind_moves : (xs ys : List ReferenceTo) → ((x : ReferenceTo) → IsFirstWithout (NamesItsKind table) xs x → IsFirstWithout (NamesItsKind table) ys x) → (fault : FlatFault) → IsFirstOfWrongKind table xs fault → IsFirstOfWrongKind table ys fault
   wrong_kind_moves xs ys moves NoMemory h = tt
@@ -39,6 +40,7 @@ module _ (table : List (List ℕ × Option NodeKind)) where
   wrong_kind_moves xs ys moves (RefKind id) h = (h.0, moves h.0 h.1, h.2)
   wrong_kind_moves xs ys moves (RefCycle id) h = absurd h
   wrong_kind_moves xs ys moves (ArcEnds id) h = absurd h
+  wrong_kind_moves xs ys moves (NoNet count) h = absurd h
 
   pub endless_moves : (links other : List Link) (xs ys : List ReferenceTo) → ((x : ReferenceTo) → IsFirstWithout (ItsLinksEnd table links) xs x → IsFirstWithout (ItsLinksEnd table other) ys x) → (fault : FlatFault) → IsFirstEndless table links xs fault → IsFirstEndless table other ys fault
   endless_moves links other xs ys moves NoMemory h = tt
@@ -47,6 +49,7 @@ module _ (table : List (List ℕ × Option NodeKind)) where
   endless_moves links other xs ys moves (RefKind id) h = absurd h
   endless_moves links other xs ys moves (RefCycle id) h = (h.0, moves h.0 h.1, h.2)
   endless_moves links other xs ys moves (ArcEnds id) h = absurd h
+  endless_moves links other xs ys moves (NoNet count) h = absurd h
 
   module _ (links : List Link) where
     pub misjoined_moves : (xs ys : List ArcNode) → ((x : ArcNode) → IsFirstWithout (LinksJoin table links) xs x → IsFirstWithout (LinksJoin table links) ys x) → (fault : FlatFault) → IsFirstMisjoined table links xs fault → IsFirstMisjoined table links ys fault
@@ -56,6 +59,7 @@ module _ (table : List (List ℕ × Option NodeKind)) where
     misjoined_moves xs ys moves (RefKind id) h = absurd h
     misjoined_moves xs ys moves (RefCycle id) h = absurd h
     misjoined_moves xs ys moves (ArcEnds id) h = (h.0, moves h.0 h.1, h.2)
+    misjoined_moves xs ys moves (NoNet count) h = absurd h
 
     -- the fault of one reference node is that of the list of it only
     pub endless_only : (kind : NodeKind) (node : RefNode) (fault : FlatFault) → IsEndless table links node fault → IsFirstEndless table links (reference_of kind node ∷ []) fault
@@ -65,6 +69,7 @@ module _ (table : List (List ℕ × Option NodeKind)) where
     endless_only kind node (RefKind id) h = absurd h
     endless_only kind node (RefCycle id) h = (reference_of kind node, first_only (ItsLinksEnd table links) (reference_of kind node) (λ ends. h.1 ends.0 ends.1), sym h.0)
     endless_only kind node (ArcEnds id) h = absurd h
+    endless_only kind node (NoNet count) h = absurd h
 
     -- and that of one arc
     pub misjoined_only : (arc : ArcNode) (fault : FlatFault) → IsMisjoined table links arc fault → IsFirstMisjoined table links (arc ∷ []) fault
@@ -74,3 +79,4 @@ module _ (table : List (List ℕ × Option NodeKind)) where
     misjoined_only arc (RefKind id) h = absurd h
     misjoined_only arc (RefCycle id) h = absurd h
     misjoined_only arc (ArcEnds id) h = (arc, first_only (LinksJoin table links) arc h.1, sym h.0)
+    misjoined_only arc (NoNet count) h = absurd h

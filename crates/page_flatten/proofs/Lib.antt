@@ -8,9 +8,13 @@ pub mod Meaning
 pub mod FaultLaws
 pub mod NodeLaws
 pub mod LinkLaws
+pub mod NumberLaws
+pub mod NetLists
 pub mod ArcLaws
 pub mod WholeLaws
 pub mod OneAnswer
+pub mod NetFaults
+pub mod NetChoice
 pub mod Decisions
 pub mod SomeNet
 pub mod SomeAnswer

@@ -1,5 +1,5 @@
--- The elements so far are numbered and linked: those that the items so far begin, after the net itself.
-use Rattle.std.proofs.Common.{◌≡◌, refl, sym, ap, ◌∙◌, subst, ℕ, zero, suc, ◌+◌, ◌<◌, ◌≤◌, Bool, true, false, MatchBool, List, [], ◌∷◌, ◌++◌, Option, Some, None, length, drop, get_or, slice_get, map, append_assoc, inl, inr, arith}
+-- The elements so far are linked: those that the items so far begin, after the net itself.
+use Rattle.std.proofs.Common.{◌≡◌, refl, sym, ap, ◌∙◌, subst, ℕ, zero, suc, ◌+◌, ◌<◌, ◌≤◌, List, [], ◌∷◌, ◌++◌, Option, Some, None, length, drop, get_or, slice_get, map, append_assoc, inl, inr, arith}
 use Rattle.std.specs.List.{flat_map, AllByRecursion}
 use Rattle.std.specs.Option.{option_to_list}
 use Rattle.std.proofs.lemmas.List.{append-nil, drop_all, map-append}
@@ -11,10 +11,11 @@ use Rattle.page_flatten.specs.declared.links.Link.{Link}
 use Rattle.page_flatten.specs.declared.links.Link.TheVariants.{Apart}
 use Rattle.page_flatten.specs.Elements.{Element, NoNode, elements_from, elements, entry_of, entries, mentions}
 use Rattle.page_flatten.specs.declared.fault.FlatFault.{FlatFault}
-use Rattle.page_flatten.specs.declared.fault.FlatFault.TheVariants.{NoMemory, DuplicateId, UnknownId, RefKind, RefCycle, ArcEnds}
-use Rattle.page_flatten.specs.Rules.{AreDistinct, IsKnown, IsFirstRepeated, ids_of, IsAnswered}
+use Rattle.page_flatten.specs.declared.fault.FlatFault.TheVariants.{NoMemory, DuplicateId, UnknownId, RefKind, RefCycle, ArcEnds, NoNet}
+use Rattle.page_flatten.specs.Rules.{AreDistinct, IsKnown, IsFirstRepeated, ids_of, ids_in}
+use Rattle.page_flatten.specs.Passes.{NamesRepeated}
 use Rattle.page_flatten.specs.Tables.{table_ids, item_entry, IsNumbered, IsRepeated, places_after, transitions_after, AreLinksOf}
-use Rattle.page_flatten.proofs.Lists.{within, from_push}
+use Rattle.page_flatten.proofs.Lists.{some_is, from_push}
 use Rattle.page_flatten.proofs.Passes.{item_and_rest, each_after}
 
 -- the element of the first item, and those after it
@@ -27,7 +28,7 @@ elements_cons (RefPlace node) items p t = refl
 elements_cons (RefTransition node) items p t = refl
 elements_cons (Arc arc) items p t = refl
 
-elements_entry : (item : Item) (p t : ℕ) → map entry_of (elements_from (item ∷ []) p t) ≡ option_to_list (item_entry item)
+pub elements_entry : (item : Item) (p t : ℕ) → map entry_of (elements_from (item ∷ []) p t) ≡ option_to_list (item_entry item)
 elements_entry (Page page) p t = refl
 elements_entry PageEnd p t = refl
 elements_entry (Place node) p t = refl
@@ -37,7 +38,7 @@ elements_entry (RefTransition node) p t = refl
 elements_entry (Arc arc) p t = refl
 
 -- the element of the item at k is the next one
-next_element : (net : NetTree) (k : ℕ) (item : Item) (front : List Element) (p t : ℕ) → k < length net.items → item ≡ get_or net.items k item → elements net ≡ front ++ elements_from (drop k net.items) p t
+pub next_element : (net : NetTree) (k : ℕ) (item : Item) (front : List Element) (p t : ℕ) → k < length net.items → item ≡ get_or net.items k item → elements net ≡ front ++ elements_from (drop k net.items) p t
     → elements net ≡ (front ++ elements_from (item ∷ []) p t) ++ elements_from (drop (k + 1) net.items) (places_after item p) (transitions_after item t)
 next_element net k item front p t within is split =
     split ∙ ap (λ items. front ++ elements_from items p t) (item_and_rest net.items k item within is)
@@ -45,92 +46,9 @@ next_element net k item front p t within is split =
     ∙ sym (append_assoc front (elements_from (item ∷ []) p t) (elements_from (drop (k + 1) net.items) (places_after item p) (transitions_after item t)))
 
 -- after the last item there is no element
-last_element : (net : NetTree) (k : ℕ) (front : List Element) (p t : ℕ) → length net.items ≤ k → elements net ≡ front ++ elements_from (drop k net.items) p t → elements net ≡ front
+pub last_element : (net : NetTree) (k : ℕ) (front : List Element) (p t : ℕ) → length net.items ≤ k → elements net ≡ front ++ elements_from (drop k net.items) p t → elements net ≡ front
 last_element net k front p t all split =
     split ∙ ap (λ items. front ++ elements_from items p t) (drop_all k net.items all) ∙ append-nil front
-
-pub record AreNumbersUpTo (net : NetTree) (k : ℕ) (numbers : List (List ℕ × Option NodeKind)) : Type 0 where
-  pub front : List Element
-  pub place : ℕ
-  pub transition : ℕ
-  pub split : elements net ≡ front ++ elements_from (drop k net.items) place transition
-  pub numbered : numbers ≡ map entry_of front
-  pub distinct : AreDistinct (table_ids numbers)
-
-distinct_only : (id : List ℕ) → AreDistinct (id ∷ [])
-distinct_only id zero zero one at also = refl
-distinct_only id zero (suc n) one at also = absurd cc
-distinct_only id (suc m) n one at also = absurd cc
-
-pub distinct_push : (ids : List (List ℕ)) (id : List ℕ) → AreDistinct ids → ((n : ℕ) → slice_get ids n ≡ Some id → ⊥) → AreDistinct (ids ++ id ∷ [])
-distinct_push ids id distinct fresh m n one at also =
-    elim (from_push ids id m one at) [
-      | inl early ↦ elim (from_push ids id n one also) [
-        | inl other ↦ distinct m n one early other
-        | inr last ↦ absurd (fresh m (early ∙ ap Some (sym last.1)))
-      ]
-      | inr last ↦ elim (from_push ids id n one also) [
-        | inl early ↦ absurd (fresh n (early ∙ ap Some (sym last.1)))
-        | inr other ↦ last.0 ∙ sym other.0
-      ]
-    ]
-
--- the net itself is the first element
-pub numbers_none : (net : NetTree) (fresh : Bool) (numbers : List (List ℕ × Option NodeKind)) → MatchBool fresh ((numbers ≡ [] ++ (net.id, None) ∷ []) × ((n : ℕ) → slice_get (table_ids []) n ≡ Some net.id → ⊥)) ((n : ℕ) × (slice_get (table_ids []) n ≡ Some net.id)) → AreNumbersUpTo net 0 numbers
-numbers_none net true numbers added = record {
-  front = record { id = net.id; role = NoNode } ∷ [];
-  place = 0;
-  transition = 0;
-  split = refl;
-  numbered = added.0;
-  distinct = subst (λ l. AreDistinct (table_ids l)) (sym added.0) (distinct_only net.id);
-}
-numbers_none net false numbers added = let none = added.1 in absurd cc
-
-distinct_more : (old new : List (List ℕ × Option NodeKind)) (entry : Option (List ℕ × Option NodeKind)) → AreDistinct (table_ids old) → IsNumbered old new entry → AreDistinct (table_ids new)
-distinct_more old new None distinct is = subst (λ l. AreDistinct (table_ids l)) (sym (is.grown ∙ append-nil old)) distinct
-distinct_more old new (Some entry) distinct is =
-    subst AreDistinct (sym (ap table_ids is.grown ∙ map-append (λ e. e.0) old (entry ∷ []))) (distinct_push (table_ids old) entry.0 distinct is.fresh)
-
-pub numbers_more : (net : NetTree) (k : ℕ) (item : Item) (old new : List (List ℕ × Option NodeKind)) → k < length net.items → item ≡ get_or net.items k item → AreNumbersUpTo net k old → IsNumbered old new (item_entry item) → AreNumbersUpTo net (k + 1) new
-numbers_more net k item old new within is before numbered = record {
-  front = before.front ++ elements_from (item ∷ []) before.place before.transition;
-  place = places_after item before.place;
-  transition = transitions_after item before.transition;
-  split = next_element net k item before.front before.place before.transition within is before.split;
-  numbered =
-      numbered.grown ∙ ap (λ l. l ++ option_to_list (item_entry item)) before.numbered
-      ∙ ap (λ l. map entry_of before.front ++ l) (sym (elements_entry item before.place before.transition))
-      ∙ sym (map-append entry_of before.front (elements_from (item ∷ []) before.place before.transition));
-  distinct = distinct_more old new (item_entry item) before.distinct numbered;
-}
-
-pub numbers_all : (net : NetTree) (k : ℕ) (numbers : List (List ℕ × Option NodeKind)) → length net.items ≤ k → AreNumbersUpTo net k numbers → numbers ≡ entries net
-numbers_all net k numbers all before = before.numbered ∙ ap (map entry_of) (sym (last_element net k before.front before.place before.transition all before.split))
-
-pub ids_are : (list : List Element) → table_ids (map entry_of list) ≡ map (λ element. element.id) list
-ids_are [] = refl
-ids_are (element ∷ list) = ap (λ l. element.id ∷ l) (ids_are list)
-
--- an item whose element has the id of an earlier one is the first repeated
-pub repeated_here : (net : NetTree) (k : ℕ) (item : Item) (numbers : List (List ℕ × Option NodeKind)) (id : List ℕ) (kind : Option NodeKind) (n : ℕ) → k < length net.items → item ≡ get_or net.items k item → AreNumbersUpTo net k numbers → item_entry item ≡ Some (id, kind) → slice_get (table_ids numbers) n ≡ Some id → IsFirstRepeated (ids_of net) id
-repeated_here net k item numbers id kind n within is before entry at =
-    let rest : List Element = elements_from (drop (k + 1) net.items) (places_after item before.place) (transitions_after item before.transition) in
-    let here : List Element = elements_from (item ∷ []) before.place before.transition in
-    let named : map entry_of here ≡ (id, kind) ∷ [] = elements_entry item before.place before.transition ∙ ap option_to_list entry in
-    let split = next_element net k item before.front before.place before.transition within is before.split in
-    let counted = sym before.numbered in
-    let all : map entry_of (elements net) ≡ (numbers ++ (id, kind) ∷ []) ++ map entry_of rest =
-    ap (map entry_of) split ∙ map-append entry_of (before.front ++ here) rest
-    ∙ ap (λ l. l ++ map entry_of rest) (map-append entry_of before.front here ∙ (λ i. counted i ++ named i)) in
-    record {
-      front = table_ids numbers;
-      back = table_ids (map entry_of rest);
-      occurs = sym (ids_are (elements net)) ∙ ap table_ids all ∙ ap table_ids (append_assoc numbers ((id, kind) ∷ []) (map entry_of rest)) ∙ map-append (λ e. e.0) numbers ((id, kind) ∷ map entry_of rest);
-      before = before.distinct;
-      place = n;
-      repeated = at;
-    }
 
 -- the links of the elements so far
 pub record AreLinksUpTo (numbers : List (List ℕ × Option NodeKind)) (net : NetTree) (k place transition : ℕ) (links : List Link) : Type 0 where
@@ -190,12 +108,3 @@ links_more numbers net k item p t q u old new link within is before linked grown
 
 pub links_all : (numbers : List (List ℕ × Option NodeKind)) (net : NetTree) (k p t : ℕ) (links : List Link) → length net.items ≤ k → AreLinksUpTo numbers net k p t links → AreLinksOf numbers (elements net) links
 links_all numbers net k p t links all before = subst (λ l. AreLinksOf numbers l links) (sym (last_element net k before.front p t all before.split)) before.linked
-
--- so the fault at an item is one that may be answered
-pub repeated_answered : (net : NetTree) (k : ℕ) (item : Item) (numbers : List (List ℕ × Option NodeKind)) → k < length net.items → item ≡ get_or net.items k item → AreNumbersUpTo net k numbers → (fault : FlatFault) → IsRepeated numbers (item_entry item) fault → IsAnswered net fault
-repeated_answered net k item numbers within is before NoMemory h = tt
-repeated_answered net k item numbers within is before (DuplicateId id) h = repeated_here net k item numbers id h.0 h.2 within is before h.1 h.3
-repeated_answered net k item numbers within is before (UnknownId id by) h = absurd h
-repeated_answered net k item numbers within is before (RefKind id) h = absurd h
-repeated_answered net k item numbers within is before (RefCycle id) h = absurd h
-repeated_answered net k item numbers within is before (ArcEnds id) h = absurd h

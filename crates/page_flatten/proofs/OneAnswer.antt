@@ -6,16 +6,19 @@ use Rattle.std.proofs.lemmas.Bool.{cases_lt}
 use Rattle.net_values.specs.declared.document.NetTree.{NetTree}
 use Rattle.net_values.specs.declared.document.ArcNode.{ArcNode}
 use Rattle.page_flatten.specs.declared.fault.FlatFault.{FlatFault}
-use Rattle.page_flatten.specs.declared.fault.FlatFault.TheVariants.{NoMemory, DuplicateId, UnknownId, RefKind, RefCycle, ArcEnds}
+use Rattle.page_flatten.specs.declared.fault.FlatFault.TheVariants.{NoMemory, DuplicateId, UnknownId, RefKind, RefCycle, ArcEnds, NoNet}
 use Rattle.page_flatten.specs.declared.links.End.{End}
 use Rattle.page_flatten.specs.declared.links.End.TheVariants.{AtPlace, AtTransition}
-use Rattle.page_flatten.specs.Elements.{Element, Role, Real, Reference, elements, Mention, ReferenceTo, mentions, references, arcs}
+use Rattle.page_flatten.specs.Elements.{Element, Role, Real, Reference, elements, entries, Mention, ReferenceTo, mentions, references, arcs}
 use Rattle.page_flatten.specs.Chains.{Resolves, to_itself, to_what_it_names}
-use Rattle.page_flatten.specs.Rules.{AreDistinct, ids_of, IsFirstWithout, IsFirstRepeated, FirstBrokenOf}
-use Rattle.page_flatten.specs.Flat.{FlatArc, IsResolved, weight_between}
-use Rattle.page_flatten.specs.Laws.{HasOneFault, BreaksWhereFaulty, HasOneFlatNet}
+use Rattle.net_values.specs.declared.document.Document.{Document}
+use Rattle.page_flatten.specs.Rules.{AreDistinct, ids_of, ids_in, IsKnown, NamesItsKind, ItsChainEnds, JoinsPlaceAndTransition, IsFirstWithout, IsFirstIn, IsFirstRepeated, FirstBroken, BreaksNoRule}
+use Rattle.net_values.specs.FlatNets.{NetLists}
+use Rattle.page_flatten.specs.Flat.{FlatArc, IsResolved, IsNet, Flat, FlatOf, weight_between}
+use Rattle.page_flatten.specs.Laws.{HasOneFault, BreaksWhereFaulty, HasOneFlatNet, IsSameNet}
 use Rattle.page_flatten.proofs.Lists.{some_is, within, get_map, get_front}
-use Rattle.page_flatten.proofs.Passes.{each_after}
+use Rattle.page_flatten.proofs.Passes.{none_first}
+use Rattle.page_flatten.proofs.NetLists.{distinct_at}
 
 first_is_first : {X : Type 0} (P : X → Type 0) (f g b c : List X) (x y : X) → f ++ x ∷ b ≡ g ++ y ∷ c → AllByRecursion P f → AllByRecursion P g → (P x → ⊥) → (P y → ⊥) → x ≡ y
 first_is_first P [] [] b c x y e good other no_x no_y = cc
@@ -28,10 +31,6 @@ first_is_first P (z ∷ f) (w ∷ g) b c x y e good other no_x no_y =
 -- two first members without the property are one
 one_first : {X : Type 0} (P : X → Type 0) (xs : List X) (x y : X) → IsFirstWithout P xs x → IsFirstWithout P xs y → x ≡ y
 one_first P xs x y a b = first_is_first P a.front b.front a.back b.back x y (sym a.occurs ∙ b.occurs) a.before b.before a.lacks b.lacks
-
--- and there is none where each has it
-none_first : {X : Type 0} (P : X → Type 0) (xs : List X) (x : X) → AllByRecursion P xs → IsFirstWithout P xs x → ⊥
-none_first P xs x all first = first.lacks (each_after P first.front (x ∷ first.back) (subst (AllByRecursion P) first.occurs all)).1.0
 
 get_back : {X : Type 0} (xs ys : List X) (x : X) → slice_get (xs ++ x ∷ ys) (length xs) ≡ Some x
 get_back [] ys x = refl
@@ -67,7 +66,7 @@ one_repeated ids x y a b =
       ]
     ]
 
-none_repeated : (ids : List (List ℕ)) (x : List ℕ) → AreDistinct ids → IsFirstRepeated ids x → ⊥
+pub none_repeated : (ids : List (List ℕ)) (x : List ℕ) → AreDistinct ids → IsFirstRepeated ids x → ⊥
 none_repeated ids x distinct a =
     let before = within a.front a.place x a.repeated in
     let early : slice_get ids a.place ≡ Some x = ap (λ l. slice_get l a.place) a.occurs ∙ get_front a.front (x ∷ a.back) a.place x a.repeated in
@@ -75,46 +74,79 @@ none_repeated ids x distinct a =
     let same : a.place ≡ length a.front = distinct a.place (length a.front) x early here in
     omega arith
 
-module _ (net : NetTree) where
-  one_fault_of : (one other : FlatFault) → FirstBrokenOf net one → FirstBrokenOf net other → one ≡ other
+-- the lists of a net, and what the rules ask of their members
+abbrev mentioned : NetTree → List Mention
+mentioned net = flat_map mentions net.items
+
+abbrev referred : NetTree → List ReferenceTo
+referred net = flat_map references net.items
+
+abbrev joined : NetTree → List ArcNode
+joined net = flat_map arcs net.items
+
+abbrev known : NetTree → Mention → Type 0
+known net = IsKnown (entries net)
+
+abbrev of_kind : NetTree → ReferenceTo → Type 0
+of_kind net = NamesItsKind (entries net)
+
+-- two first members of the nets without the property are one
+module _ {X : Type 0} (list : NetTree → List X) (Property : NetTree → X → Type 0) (nets : List NetTree) where
+  one_in : (x y : X) → IsFirstIn list Property nets x → IsFirstIn list Property nets y → x ≡ y
+  one_in x y a b =
+      let same : a.net ≡ b.net = one_first _ nets a.net b.net a.net_is b.net_is in
+      one_first (Property b.net) (list b.net) x y (subst (λ (net : NetTree). IsFirstWithout (Property net) (list net) x) same a.first) b.first
+
+  -- and there is none where the members of each net have it
+  none_in : (x : X) → AllByRecursion (λ net. AllByRecursion (Property net) (list net)) nets → IsFirstIn list Property nets x → ⊥
+  none_in x all a = none_first _ nets a.net all a.net_is
+
+module _ (document : Document) where
+  abbrev nets : List NetTree
+  nets = document.nets
+
+  one_fault_of : (one other : FlatFault) → FirstBroken document one → FirstBroken document other → one ≡ other
   one_fault_of NoMemory other a b = absurd a
   one_fault_of one NoMemory a b = absurd b
-  one_fault_of (DuplicateId x) (DuplicateId y) a b = ap DuplicateId (one_repeated (ids_of net) x y a b)
-  one_fault_of (DuplicateId x) (UnknownId y z) a b = absurd (none_repeated (ids_of net) x b.0 a)
-  one_fault_of (DuplicateId x) (RefKind y) a b = absurd (none_repeated (ids_of net) x b.0 a)
-  one_fault_of (DuplicateId x) (RefCycle y) a b = absurd (none_repeated (ids_of net) x b.0 a)
-  one_fault_of (DuplicateId x) (ArcEnds y) a b = absurd (none_repeated (ids_of net) x b.0 a)
-  one_fault_of (UnknownId x z) (DuplicateId y) a b = absurd (none_repeated (ids_of net) y a.0 b)
-  one_fault_of (UnknownId x z) (UnknownId y w) a b = ap (λ (m : Mention). UnknownId m.id m.by) (one_first _ (flat_map mentions net.items) record { id = x; by = z } record { id = y; by = w } a.1 b.1)
-  one_fault_of (UnknownId x z) (RefKind y) a b = absurd (none_first _ (flat_map mentions net.items) record { id = x; by = z } b.1 a.1)
-  one_fault_of (UnknownId x z) (RefCycle y) a b = absurd (none_first _ (flat_map mentions net.items) record { id = x; by = z } b.1 a.1)
-  one_fault_of (UnknownId x z) (ArcEnds y) a b = absurd (none_first _ (flat_map mentions net.items) record { id = x; by = z } b.1 a.1)
-  one_fault_of (RefKind x) (DuplicateId y) a b = absurd (none_repeated (ids_of net) y a.0 b)
-  one_fault_of (RefKind x) (UnknownId y w) a b = absurd (none_first _ (flat_map mentions net.items) record { id = y; by = w } a.1 b.1)
-  one_fault_of (RefKind x) (RefKind y) a b = ap RefKind (sym a.4 ∙ ap (λ (r : ReferenceTo). r.id) (one_first _ (flat_map references net.items) a.2 b.2 a.3 b.3) ∙ b.4)
-  one_fault_of (RefKind x) (RefCycle y) a b = absurd (none_first _ (flat_map references net.items) a.2 b.2 a.3)
-  one_fault_of (RefKind x) (ArcEnds y) a b = absurd (none_first _ (flat_map references net.items) a.2 b.2 a.3)
-  one_fault_of (RefCycle x) (DuplicateId y) a b = absurd (none_repeated (ids_of net) y a.0 b)
-  one_fault_of (RefCycle x) (UnknownId y w) a b = absurd (none_first _ (flat_map mentions net.items) record { id = y; by = w } a.1 b.1)
-  one_fault_of (RefCycle x) (RefKind y) a b = absurd (none_first _ (flat_map references net.items) b.2 a.2 b.3)
-  one_fault_of (RefCycle x) (RefCycle y) a b = ap RefCycle (sym a.5 ∙ ap (λ (r : ReferenceTo). r.id) (one_first _ (flat_map references net.items) a.3 b.3 a.4 b.4) ∙ b.5)
-  one_fault_of (RefCycle x) (ArcEnds y) a b = absurd (none_first _ (flat_map references net.items) a.3 b.3 a.4)
-  one_fault_of (ArcEnds x) (DuplicateId y) a b = absurd (none_repeated (ids_of net) y a.0 b)
-  one_fault_of (ArcEnds x) (UnknownId y w) a b = absurd (none_first _ (flat_map mentions net.items) record { id = y; by = w } a.1 b.1)
-  one_fault_of (ArcEnds x) (RefKind y) a b = absurd (none_first _ (flat_map references net.items) b.2 a.2 b.3)
-  one_fault_of (ArcEnds x) (RefCycle y) a b = absurd (none_first _ (flat_map references net.items) b.3 a.3 b.4)
-  one_fault_of (ArcEnds x) (ArcEnds y) a b = ap ArcEnds (sym a.6 ∙ ap (λ (r : ArcNode). r.id) (one_first _ (flat_map arcs net.items) a.4 b.4 a.5 b.5) ∙ b.6)
+  one_fault_of (NoNet count) other a b = absurd a
+  one_fault_of one (NoNet count) a b = absurd b
+  one_fault_of (DuplicateId x) (DuplicateId y) a b = ap DuplicateId (one_repeated (ids_in nets) x y a b)
+  one_fault_of (DuplicateId x) (UnknownId y w) a b = absurd (none_repeated (ids_in nets) x b.0 a)
+  one_fault_of (DuplicateId x) (RefKind y) a b = absurd (none_repeated (ids_in nets) x b.0 a)
+  one_fault_of (DuplicateId x) (RefCycle y) a b = absurd (none_repeated (ids_in nets) x b.0 a)
+  one_fault_of (DuplicateId x) (ArcEnds y) a b = absurd (none_repeated (ids_in nets) x b.0 a)
+  one_fault_of (UnknownId x z) (DuplicateId y) a b = absurd (none_repeated (ids_in nets) y a.0 b)
+  one_fault_of (UnknownId x z) (UnknownId y w) a b = ap (λ (m : Mention). UnknownId m.id m.by) (one_in mentioned known nets record { id = x; by = z } record { id = y; by = w } a.1 b.1)
+  one_fault_of (UnknownId x z) (RefKind y) a b = absurd (none_in mentioned known nets record { id = x; by = z } b.1 a.1)
+  one_fault_of (UnknownId x z) (RefCycle y) a b = absurd (none_in mentioned known nets record { id = x; by = z } b.1 a.1)
+  one_fault_of (UnknownId x z) (ArcEnds y) a b = absurd (none_in mentioned known nets record { id = x; by = z } b.1 a.1)
+  one_fault_of (RefKind x) (DuplicateId y) a b = absurd (none_repeated (ids_in nets) y a.0 b)
+  one_fault_of (RefKind x) (UnknownId y w) a b = absurd (none_in mentioned known nets record { id = y; by = w } a.1 b.1)
+  one_fault_of (RefKind x) (RefKind y) a b = ap RefKind (sym a.4 ∙ ap (λ (r : ReferenceTo). r.id) (one_in referred of_kind nets a.2 b.2 a.3 b.3) ∙ b.4)
+  one_fault_of (RefKind x) (RefCycle y) a b = absurd (none_in referred of_kind nets a.2 b.2 a.3)
+  one_fault_of (RefKind x) (ArcEnds y) a b = absurd (none_in referred of_kind nets a.2 b.2 a.3)
+  one_fault_of (RefCycle x) (DuplicateId y) a b = absurd (none_repeated (ids_in nets) y a.0 b)
+  one_fault_of (RefCycle x) (UnknownId y w) a b = absurd (none_in mentioned known nets record { id = y; by = w } a.1 b.1)
+  one_fault_of (RefCycle x) (RefKind y) a b = absurd (none_in referred of_kind nets b.2 a.2 b.3)
+  one_fault_of (RefCycle x) (RefCycle y) a b = ap RefCycle (sym a.5 ∙ ap (λ (r : ReferenceTo). r.id) (one_in referred ItsChainEnds nets a.3 b.3 a.4 b.4) ∙ b.5)
+  one_fault_of (RefCycle x) (ArcEnds y) a b = absurd (none_in referred ItsChainEnds nets a.3 b.3 a.4)
+  one_fault_of (ArcEnds x) (DuplicateId y) a b = absurd (none_repeated (ids_in nets) y a.0 b)
+  one_fault_of (ArcEnds x) (UnknownId y w) a b = absurd (none_in mentioned known nets record { id = y; by = w } a.1 b.1)
+  one_fault_of (ArcEnds x) (RefKind y) a b = absurd (none_in referred of_kind nets b.2 a.2 b.3)
+  one_fault_of (ArcEnds x) (RefCycle y) a b = absurd (none_in referred ItsChainEnds nets b.3 a.3 b.4)
+  one_fault_of (ArcEnds x) (ArcEnds y) a b = ap ArcEnds (sym a.6 ∙ ap (λ (r : ArcNode). r.id) (one_in joined JoinsPlaceAndTransition nets a.4 b.4 a.5 b.5) ∙ b.6)
 
 pub one_fault : HasOneFault
-one_fault document one other a b = one_fault_of document.net one other a b
+one_fault document one other a b = one_fault_of document one other a b
 
 pub breaks_where_faulty : BreaksWhereFaulty
 breaks_where_faulty document NoMemory h keeps = absurd h
-breaks_where_faulty document (DuplicateId x) h keeps = none_repeated (ids_of document.net) x keeps.ids h
-breaks_where_faulty document (UnknownId x y) h keeps = none_first _ (flat_map mentions document.net.items) record { id = x; by = y } keeps.mentions h.1
-breaks_where_faulty document (RefKind x) h keeps = none_first _ (flat_map references document.net.items) h.2 keeps.kinds h.3
-breaks_where_faulty document (RefCycle x) h keeps = none_first _ (flat_map references document.net.items) h.3 keeps.chains h.4
-breaks_where_faulty document (ArcEnds x) h keeps = none_first _ (flat_map arcs document.net.items) h.4 keeps.arcs h.5
+breaks_where_faulty document (DuplicateId x) h keeps = none_repeated (ids_in document.nets) x keeps.ids h
+breaks_where_faulty document (UnknownId x y) h keeps = none_in mentioned known document.nets record { id = x; by = y } keeps.mentions h.1
+breaks_where_faulty document (RefKind x) h keeps = none_in referred of_kind document.nets h.2 keeps.kinds h.3
+breaks_where_faulty document (RefCycle x) h keeps = none_in referred ItsChainEnds document.nets h.3 keeps.chains h.4
+breaks_where_faulty document (ArcEnds x) h keeps = none_in joined JoinsPlaceAndTransition document.nets h.4 keeps.arcs h.5
+breaks_where_faulty document (NoNet count) h keeps = absurd h
 
 abbrev element : List ℕ → Role → Element
 element id role = record { id = id; role = role }
@@ -149,9 +181,16 @@ module _ (list : List Element) (distinct : AreDistinct (map (λ (e : Element). e
       let rest = one_resolved arcs xs ys a.1 b.1 in
       λ i. record { source = source i; target = target i; weight = weight i } ∷ rest i
 
-pub one_flat : HasOneFlatNet
-one_flat document one other keeps a b =
-    let same = one_resolved (elements document.net) keeps.ids (flat_map arcs document.net.items) a.flat_arcs b.flat_arcs a.resolved b.resolved in
+-- net k of a document is one net
+one_net : (document : Document) (k : ℕ) (one other : NetTree) → IsNet document k one → IsNet document k other → one ≡ other
+one_net document zero one other a b = absurd a
+one_net document (suc n) one other a b = some_is (sym a ∙ b)
+
+one_flat_of : (document : Document) (k : ℕ) (tree : NetTree) (one other : NetLists) → BreaksNoRule document → IsNet document k tree → FlatOf tree one → FlatOf tree other → IsSameNet one other
+one_flat_of document zero tree one other keeps chosen a b = absurd chosen
+one_flat_of document (suc n) tree one other keeps chosen a b =
+    let distinct = distinct_at document.nets n tree chosen keeps.ids in
+    let same = one_resolved (elements tree) distinct (flat_map arcs tree.items) a.flat_arcs b.flat_arcs a.resolved b.resolved in
     record {
       places = a.places ∙ sym b.places;
       transitions = a.transitions ∙ sym b.transitions;
@@ -159,3 +198,8 @@ one_flat document one other keeps a b =
       post = λ p t. a.post p t ∙ ap (sum_by (weight_between (AtTransition t) (AtPlace p))) same ∙ sym (b.post p t);
       count = a.count ∙ sym b.count;
     }
+
+pub one_flat : HasOneFlatNet
+one_flat document k one other keeps a b =
+    let same = one_net document k b.tree a.tree b.chosen a.chosen in
+    one_flat_of document k a.tree one other keeps a.chosen a.flat (subst (λ (tree : NetTree). FlatOf tree other) same b.flat)

@@ -30,6 +30,10 @@ first_same P Q there back ys y first = record {
   lacks = λ good. first.lacks (back y good);
 }
 
+-- where each member has it there is none without
+pub none_first : {X : Type 0} (P : X → Type 0) (xs : List X) (x : X) → AllByRecursion P xs → IsFirstWithout P xs x → ⊥
+none_first P xs x all first = first.lacks (each_after P first.front (x ∷ first.back) (subst (AllByRecursion P) first.occurs all)).1.0
+
 -- the first of a list of one
 pub first_only : {Y : Type 0} (P : Y → Type 0) (y : Y) → (P y → ⊥) → IsFirstWithout P (y ∷ []) y
 first_only P y lacks = record { front = []; back = []; occurs = refl; before = tt; lacks = lacks }

@@ -5,7 +5,6 @@ use Rattle.std.specs.List.{flat_map, AllByRecursion, AllZip}
 use Rattle.std.proofs.lemmas.Bool.{ne_eqb, cases_eq}
 use Rattle.std.proofs.lemmas.List.Sums.{sum_by-append, sum_by-cons}
 use Rattle.net_values.specs.declared.column.WeightedPlace.{WeightedPlace}
-use Rattle.net_values.specs.declared.document.Document.{Document}
 use Rattle.net_values.specs.declared.document.NetTree.{NetTree}
 use Rattle.net_values.specs.declared.document.ArcNode.{ArcNode}
 use Rattle.net_values.specs.declared.flat_net.FlatTransition.{FlatTransition}
@@ -17,7 +16,7 @@ use Rattle.page_flatten.specs.declared.links.End.TheVariants.{AtPlace, AtTransit
 use Rattle.page_flatten.specs.Elements.{Element, Real, elements, arcs}
 use Rattle.page_flatten.specs.Chains.{Resolves, to_itself, to_what_it_names}
 use Rattle.page_flatten.specs.Rules.{JoinsArcs, JoinsPlaceAndTransition}
-use Rattle.page_flatten.specs.Flat.{FlatArc, IsResolved, Flat, flat_places, flat_transitions, same_end, weight_between}
+use Rattle.page_flatten.specs.Flat.{FlatOf, FlatArc, IsResolved, flat_places, flat_transitions, same_end, weight_between}
 use Rattle.page_flatten.specs.Tables.{IsEndWithin}
 use Rattle.page_flatten.proofs.ArcLaws.{either_order}
 use Rattle.page_flatten.proofs.WholeLaws.{counted_in, within_more}
@@ -146,9 +145,8 @@ module _ (net : NetTree) where
       let columns = columns_at list (flat_map flat_transitions net.items) 0 t (λ u beyond. none_beyond list within u (omega arith)) in
       (columns.0 ∙ ap (inputs_of list) (first_term t), columns.1 ∙ ap (outputs_of list) (first_term t))
 
-pub some_net : (document : Document) → JoinsArcs document.net → (net : NetLists) × Flat document net
-some_net document joins =
-    let net = document.net in
+pub some_net : (net : NetTree) → JoinsArcs net → (flat : NetLists) × FlatOf net flat
+some_net net joins =
     let found = flat_arcs_of net (flat_map arcs net.items) joins in
     let ids : List (List ℕ) = flat_map flat_transitions net.items in
     let lists : NetLists = record { places = flat_map flat_places net.items; transitions = transitions_from found.0 ids 0; arcs = count_by is_arc net.items } in (

@@ -8,22 +8,23 @@ use Rattle.net_values.specs.declared.document.Item.{Item}
 use Rattle.net_values.specs.declared.document.Item.TheVariants.{Page, PageEnd, Place, Transition, RefPlace, RefTransition, Arc}
 use Rattle.net_values.specs.FlatNets.{NetLists, transition_ids}
 use Rattle.page_flatten.specs.declared.fault.FlatFault.{FlatFault}
-use Rattle.page_flatten.specs.declared.fault.FlatFault.TheVariants.{NoMemory, DuplicateId, UnknownId, RefKind, RefCycle, ArcEnds}
+use Rattle.page_flatten.specs.declared.fault.FlatFault.TheVariants.{NoMemory, DuplicateId, UnknownId, RefKind, RefCycle, ArcEnds, NoNet}
 use Rattle.page_flatten.specs.declared.links.End.{End}
 use Rattle.page_flatten.specs.declared.links.End.TheVariants.{AtPlace, AtTransition}
 use Rattle.page_flatten.specs.declared.links.Link.{Link}
 use Rattle.page_flatten.specs.declared.links.Link.TheVariants.{Ends}
 use Rattle.net_values.specs.declared.node_kind.NodeKind.{NodeKind}
-use Rattle.page_flatten.specs.Elements.{Element, Role, NoNode, Real, Reference, elements, elements_from, entries, mentions, references, ReferenceTo, arcs}
+use Rattle.page_flatten.specs.Elements.{Element, Role, NoNode, Real, Reference, elements, elements_from, entries, references, ReferenceTo, arcs}
 use Rattle.page_flatten.specs.Chains.{Resolves}
-use Rattle.page_flatten.specs.Rules.{AreDistinct, HasDistinctIds, MentionsNodes, KeepsKinds, EndsChains, JoinsArcs, ItsChainEnds, JoinsPlaceAndTransition, IsAnswered}
-use Rattle.page_flatten.specs.Flat.{FlatArc, IsResolved, Flat, flat_places, flat_transitions}
-use Rattle.page_flatten.specs.Tables.{table_ids, EndsAt, EndsById, HaveSameEnds, AreLinksOf, AreSettled, ItsLinksEnd, LinksJoin, IsFirstUnknown, IsFirstOfWrongKind, IsFirstEndless, IsFirstMisjoined, IsEndWithin, LinksStayWithin, IsResolvedBy, AddsArcs, HasNoArcs}
+use Rattle.page_flatten.specs.Rules.{AreDistinct, HasDistinctIds, EndsChains, JoinsArcs, ItsChainEnds, JoinsPlaceAndTransition}
+use Rattle.page_flatten.specs.Passes.{NamesUnending, NamesWrongArc}
+use Rattle.page_flatten.specs.Flat.{FlatArc, IsResolved, FlatOf, flat_places, flat_transitions}
+use Rattle.page_flatten.specs.Tables.{table_ids, EndsAt, EndsById, HaveSameEnds, AreLinksOf, AreSettled, ItsLinksEnd, LinksJoin, IsFirstEndless, IsFirstMisjoined, IsEndWithin, LinksStayWithin, IsResolvedBy, AddsArcs, HasNoArcs}
 use Rattle.page_flatten.proofs.Lists.{some_is}
 use Rattle.page_flatten.proofs.Passes.{each_weaker, first_same}
 use Rattle.page_flatten.proofs.ChainLaws.{has_end, kept_by_id, sound_by_id}
 use Rattle.page_flatten.proofs.Meaning.{ends_by_id, resolves_by_id, linked_back, real_from_link}
-use Rattle.page_flatten.proofs.LinkLaws.{ids_are}
+use Rattle.page_flatten.proofs.NumberLaws.{ids_are}
 use Rattle.page_flatten.proofs.NodeLaws.{arcs_counted}
 
 pub distinct_ids : (net : NetTree) → AreDistinct (table_ids (entries net)) → HasDistinctIds net
@@ -31,22 +32,6 @@ distinct_ids net distinct = subst AreDistinct (ids_are (elements net)) distinct
 
 pub distinct_entries : (net : NetTree) → HasDistinctIds net → AreDistinct (table_ids (entries net))
 distinct_entries net ids = subst AreDistinct (sym (ids_are (elements net))) ids
-
-pub mention_answered : (net : NetTree) → HasDistinctIds net → (fault : FlatFault) → IsFirstUnknown (entries net) (flat_map mentions net.items) fault → IsAnswered net fault
-mention_answered net distinct NoMemory h = tt
-mention_answered net distinct (DuplicateId id) h = absurd h
-mention_answered net distinct (UnknownId id by) h = (distinct, h)
-mention_answered net distinct (RefKind id) h = absurd h
-mention_answered net distinct (RefCycle id) h = absurd h
-mention_answered net distinct (ArcEnds id) h = absurd h
-
-pub kind_answered : (net : NetTree) → HasDistinctIds net → MentionsNodes net → (fault : FlatFault) → IsFirstOfWrongKind (entries net) (flat_map references net.items) fault → IsAnswered net fault
-kind_answered net distinct known NoMemory h = tt
-kind_answered net distinct known (DuplicateId id) h = absurd h
-kind_answered net distinct known (UnknownId id by) h = absurd h
-kind_answered net distinct known (RefKind id) h = (distinct, known, h.0, h.1, h.2)
-kind_answered net distinct known (RefCycle id) h = absurd h
-kind_answered net distinct known (ArcEnds id) h = absurd h
 
 -- a place or a transition among the elements of the items has a number below their counts
 pub within_more : (a b m n : ℕ) (end : End) → a ≤ b → m ≤ n → IsEndWithin a m end → IsEndWithin b n end
@@ -116,13 +101,14 @@ module _ (net : NetTree) (distinct : AreDistinct (table_ids (entries net))) (old
   pub chains_end : AllByRecursion (ItsLinksEnd (entries net) old) (flat_map references net.items) → EndsChains net
   chains_end h = each_weaker _ _ chain_ends (flat_map references net.items) h
 
-  pub endless_answered : HasDistinctIds net → MentionsNodes net → KeepsKinds net → (fault : FlatFault) → IsFirstEndless (entries net) old (flat_map references net.items) fault → IsAnswered net fault
-  endless_answered ids known kinds NoMemory h = tt
-  endless_answered ids known kinds (DuplicateId id) h = absurd h
-  endless_answered ids known kinds (UnknownId id by) h = absurd h
-  endless_answered ids known kinds (RefKind id) h = absurd h
-  endless_answered ids known kinds (RefCycle id) h = (ids, known, kinds, h.0, first_same _ _ chain_ends links_end (flat_map references net.items) h.0 h.1, h.2)
-  endless_answered ids known kinds (ArcEnds id) h = absurd h
+  pub unending : (fault : FlatFault) → IsFirstEndless (entries net) old (flat_map references net.items) fault → NamesUnending net fault
+  unending NoMemory h = tt
+  unending (DuplicateId id) h = absurd h
+  unending (UnknownId id by) h = absurd h
+  unending (RefKind id) h = absurd h
+  unending (RefCycle id) h = (h.0, first_same _ _ chain_ends links_end (flat_map references net.items) h.0 h.1, h.2)
+  unending (ArcEnds id) h = absurd h
+  unending (NoNet count) h = absurd h
 
   real_at : (n : ℕ) (end : End) → EndsAt old n end → IsCounted net.items 0 0 end
   real_at n end h =
@@ -158,13 +144,14 @@ module _ (net : NetTree) (links : List Link) (settled : AreSettled net links) wh
     apart = h.apart;
   }
 
-  pub misjoined_answered : HasDistinctIds net → MentionsNodes net → KeepsKinds net → EndsChains net → (fault : FlatFault) → IsFirstMisjoined (entries net) links (flat_map arcs net.items) fault → IsAnswered net fault
-  misjoined_answered ids known kinds chains NoMemory h = tt
-  misjoined_answered ids known kinds chains (DuplicateId id) h = absurd h
-  misjoined_answered ids known kinds chains (UnknownId id by) h = absurd h
-  misjoined_answered ids known kinds chains (RefKind id) h = absurd h
-  misjoined_answered ids known kinds chains (RefCycle id) h = absurd h
-  misjoined_answered ids known kinds chains (ArcEnds id) h = (ids, known, kinds, chains, h.0, first_same _ _ arc_joins links_join (flat_map arcs net.items) h.0 h.1, h.2)
+  pub wrong_arc : (fault : FlatFault) → IsFirstMisjoined (entries net) links (flat_map arcs net.items) fault → NamesWrongArc net fault
+  wrong_arc NoMemory h = tt
+  wrong_arc (DuplicateId id) h = absurd h
+  wrong_arc (UnknownId id by) h = absurd h
+  wrong_arc (RefKind id) h = absurd h
+  wrong_arc (RefCycle id) h = absurd h
+  wrong_arc (ArcEnds id) h = (h.0, first_same _ _ arc_joins links_join (flat_map arcs net.items) h.0 h.1, h.2)
+  wrong_arc (NoNet count) h = absurd h
 
   -- each end is a place or a transition of a net with these nodes
   pub ends_within : (lists : NetLists) → lists.places ≡ flat_map flat_places net.items → transition_ids lists ≡ flat_map flat_transitions net.items → LinksStayWithin (length lists.places) (length lists.transitions) links
@@ -182,7 +169,7 @@ module _ (net : NetTree) (links : List Link) (settled : AreSettled net links) wh
   pub arcs_join : (bare flat : NetLists) → AddsArcs (entries net) links (flat_map arcs net.items) bare flat → JoinsArcs net
   arcs_join bare flat adds = each_weaker _ _ arc_joins (flat_map arcs net.items) adds.joined
 
-  pub flat_net : (bare flat : NetLists) → bare.places ≡ flat_map flat_places net.items → transition_ids bare ≡ flat_map flat_transitions net.items → HasNoArcs bare → AddsArcs (entries net) links (flat_map arcs net.items) bare flat → Flat record { net = net } flat
+  pub flat_net : (bare flat : NetLists) → bare.places ≡ flat_map flat_places net.items → transition_ids bare ≡ flat_map flat_transitions net.items → HasNoArcs bare → AddsArcs (entries net) links (flat_map arcs net.items) bare flat → FlatOf net flat
   flat_net bare flat places transitions none adds = record {
     places = adds.nodes.places ∙ places;
     transitions = adds.nodes.transitions ∙ transitions;

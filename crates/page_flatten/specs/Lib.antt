@@ -9,3 +9,4 @@ pub mod Laws
 -- Only clauses of private functions and lemmas cite these.
 pub mod Tables
 pub mod Joints
+pub mod Passes

@@ -1,11 +1,12 @@
--- The five rules that a document must keep to represent a flat net, and the first broken one.
-use Rattle.std.specs.Prelude.{◌≡◌, ℕ, List, ◌∷◌, ◌++◌, Option, Some, map, slice_get}
+-- The five rules that a document must keep to represent flat nets, and the first broken one. They hold over all
+-- nets of the document: ids are unique among them, and each other rule is kept in each net.
+use Rattle.std.specs.Prelude.{◌≡◌, ◌≤◌, ℕ, List, ◌∷◌, ◌++◌, Option, Some, map, slice_get, length}
 use Rattle.std.specs.List.{flat_map, AllByRecursion}
 use Rattle.net_values.specs.declared.document.Document.{Document}
 use Rattle.net_values.specs.declared.document.NetTree.{NetTree}
 use Rattle.net_values.specs.declared.document.ArcNode.{ArcNode}
 use Rattle.page_flatten.specs.declared.fault.FlatFault.{FlatFault}
-use Rattle.page_flatten.specs.declared.fault.FlatFault.TheVariants.{NoMemory, DuplicateId, UnknownId, RefKind, RefCycle, ArcEnds}
+use Rattle.page_flatten.specs.declared.fault.FlatFault.TheVariants.{NoMemory, DuplicateId, UnknownId, RefKind, RefCycle, ArcEnds, NoNet}
 use Rattle.page_flatten.specs.declared.links.End.{End}
 use Rattle.page_flatten.specs.declared.links.End.TheVariants.{AtPlace, AtTransition}
 use Rattle.net_values.specs.declared.node_kind.NodeKind.{NodeKind}
@@ -50,7 +51,7 @@ pub record JoinsPlaceAndTransition (net : NetTree) (arc : ArcNode) : Type 0 wher
   pub target_resolves : Resolves (elements net) arc.target target
   pub apart : IsPlaceAndTransition source target
 
--- the five rules in their order
+-- the five rules in their order, for one net
 abbrev pub HasDistinctIds : NetTree → Type 0
 HasDistinctIds net = AreDistinct (ids_of net)
 
@@ -66,13 +67,17 @@ EndsChains net = AllByRecursion (ItsChainEnds net) (flat_map references net.item
 abbrev pub JoinsArcs : NetTree → Type 0
 JoinsArcs net = AllByRecursion (JoinsPlaceAndTransition net) (flat_map arcs net.items)
 
+-- the ids of all nets in document order
+abbrev pub ids_in : List NetTree → List (List ℕ)
+ids_in nets = flat_map ids_of nets
+
 -- a document that breaks none of them
 pub record BreaksNoRule (document : Document) : Type 0 where
-  pub ids : HasDistinctIds document.net
-  pub mentions : MentionsNodes document.net
-  pub kinds : KeepsKinds document.net
-  pub chains : EndsChains document.net
-  pub arcs : JoinsArcs document.net
+  pub ids : AreDistinct (ids_in document.nets)
+  pub mentions : AllByRecursion MentionsNodes document.nets
+  pub kinds : AllByRecursion KeepsKinds document.nets
+  pub chains : AllByRecursion EndsChains document.nets
+  pub arcs : AllByRecursion JoinsArcs document.nets
 
 -- x is the first member of the list that doesn't have the property
 pub record IsFirstWithout {X : Type 0} (Property : X → Type 0) (list : List X) (x : X) : Type 0 where
@@ -91,32 +96,53 @@ pub record IsFirstRepeated (ids : List (List ℕ)) (id : List ℕ) : Type 0 wher
   pub place : ℕ
   pub repeated : slice_get front place ≡ Some id
 
--- the first rule that a net breaks, with the ids of the first place in the document that breaks it
-abbrev pub FirstBrokenOf : NetTree → FlatFault → Type 0
-FirstBrokenOf net NoMemory = ⊥
-FirstBrokenOf net (DuplicateId id) = IsFirstRepeated (ids_of net) id
-FirstBrokenOf net (UnknownId id by) =
-    HasDistinctIds net
-    × IsFirstWithout (IsKnown (entries net)) (flat_map mentions net.items) record { id = id; by = by }
-FirstBrokenOf net (RefKind id) =
-    HasDistinctIds net × MentionsNodes net × (reference : ReferenceTo)
-    × IsFirstWithout (NamesItsKind (entries net)) (flat_map references net.items) reference × (reference.id ≡ id)
-FirstBrokenOf net (RefCycle id) =
-    HasDistinctIds net × MentionsNodes net × KeepsKinds net × (reference : ReferenceTo)
-    × IsFirstWithout (ItsChainEnds net) (flat_map references net.items) reference × (reference.id ≡ id)
-FirstBrokenOf net (ArcEnds id) =
-    HasDistinctIds net × MentionsNodes net × KeepsKinds net × EndsChains net × (arc : ArcNode)
-    × IsFirstWithout (JoinsPlaceAndTransition net) (flat_map arcs net.items) arc × (arc.id ≡ id)
+-- each net has a list, and x is the first member of all of them that doesn't have its net's property: it is the
+-- first one of its net, and the nets before have none
+pub record IsFirstIn {X : Type 0} (list : NetTree → List X) (Property : NetTree → X → Type 0) (nets : List NetTree) (x : X) : Type 0 where
+  pub net : NetTree
+  pub net_is : IsFirstWithout (λ tree. AllByRecursion (Property tree) (list tree)) nets net
+  pub first : IsFirstWithout (Property net) (list net) x
 
--- the first rule that a document breaks
+-- the first member of each kind that breaks its rule
+abbrev pub IsFirstUnknownIn : List NetTree → Mention → Type 0
+IsFirstUnknownIn nets mention = IsFirstIn (λ net. flat_map mentions net.items) (λ net. IsKnown (entries net)) nets mention
+
+abbrev pub IsFirstOfWrongKindIn : List NetTree → ReferenceTo → Type 0
+IsFirstOfWrongKindIn nets reference =
+    IsFirstIn (λ net. flat_map references net.items) (λ net. NamesItsKind (entries net)) nets reference
+
+abbrev pub IsFirstEndlessIn : List NetTree → ReferenceTo → Type 0
+IsFirstEndlessIn nets reference = IsFirstIn (λ net. flat_map references net.items) (λ net. ItsChainEnds net) nets reference
+
+abbrev pub IsFirstMisjoinedIn : List NetTree → ArcNode → Type 0
+IsFirstMisjoinedIn nets arc = IsFirstIn (λ net. flat_map arcs net.items) (λ net. JoinsPlaceAndTransition net) nets arc
+
+-- the first rule that a document breaks, with the ids of the first place in document order that breaks it
 abbrev pub FirstBroken : Document → FlatFault → Type 0
-FirstBroken document fault = FirstBrokenOf document.net fault
+FirstBroken document NoMemory = ⊥
+FirstBroken document (DuplicateId id) = IsFirstRepeated (ids_in document.nets) id
+FirstBroken document (UnknownId id by) =
+    AreDistinct (ids_in document.nets) × IsFirstUnknownIn document.nets record { id = id; by = by }
+FirstBroken document (RefKind id) =
+    AreDistinct (ids_in document.nets) × AllByRecursion MentionsNodes document.nets
+    × (reference : ReferenceTo) × IsFirstOfWrongKindIn document.nets reference × (reference.id ≡ id)
+FirstBroken document (RefCycle id) =
+    AreDistinct (ids_in document.nets) × AllByRecursion MentionsNodes document.nets × AllByRecursion KeepsKinds document.nets
+    × (reference : ReferenceTo) × IsFirstEndlessIn document.nets reference × (reference.id ≡ id)
+FirstBroken document (ArcEnds id) =
+    AreDistinct (ids_in document.nets) × AllByRecursion MentionsNodes document.nets × AllByRecursion KeepsKinds document.nets
+    × AllByRecursion EndsChains document.nets
+    × (arc : ArcNode) × IsFirstMisjoinedIn document.nets arc × (arc.id ≡ id)
+FirstBroken document (NoNet count) = ⊥
 
--- a fault that may be answered: out of memory, of which nothing is said, or the first broken rule
-abbrev pub IsAnswered : NetTree → FlatFault → Type 0
-IsAnswered net NoMemory = Unit
-IsAnswered net (DuplicateId id) = FirstBrokenOf net (DuplicateId id)
-IsAnswered net (UnknownId id by) = FirstBrokenOf net (UnknownId id by)
-IsAnswered net (RefKind id) = FirstBrokenOf net (RefKind id)
-IsAnswered net (RefCycle id) = FirstBrokenOf net (RefCycle id)
-IsAnswered net (ArcEnds id) = FirstBrokenOf net (ArcEnds id)
+-- a fault that may be answered where the net of this number is asked for, counted from 0: out of memory, of which
+-- nothing is said, the first broken rule, or else that there is no such net
+abbrev pub IsAnswered : Document → ℕ → FlatFault → Type 0
+IsAnswered document number NoMemory = Unit
+IsAnswered document number (DuplicateId id) = FirstBroken document (DuplicateId id)
+IsAnswered document number (UnknownId id by) = FirstBroken document (UnknownId id by)
+IsAnswered document number (RefKind id) = FirstBroken document (RefKind id)
+IsAnswered document number (RefCycle id) = FirstBroken document (RefCycle id)
+IsAnswered document number (ArcEnds id) = FirstBroken document (ArcEnds id)
+IsAnswered document number (NoNet count) =
+    BreaksNoRule document × (count ≡ length document.nets) × (length document.nets ≤ number)

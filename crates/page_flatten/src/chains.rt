@@ -1,35 +1,53 @@
 ghost use Rattle.std.specs.Prelude.{◌≡◌, slice_index_or, MatchBool, IfSome, IfNone, IfOk, OnOk, IfErr};
-ghost use Rattle.std.specs.List.{AllByRecursion, flat_map};
+ghost use Rattle.std.specs.List.{AllByRecursion, AllZip, flat_map};
 ghost use Rattle.page_flatten.specs.declared.links.End.{End};
 ghost use Rattle.page_flatten.specs.declared.links.Link.TheVariants.{Apart};
 ghost use Rattle.page_flatten.specs.Elements.{entries, references};
-ghost use Rattle.page_flatten.specs.Rules.{AreDistinct, HasDistinctIds, MentionsNodes, KeepsKinds, EndsChains, IsAnswered};
+ghost use Rattle.page_flatten.specs.Rules.{AreDistinct, HasDistinctIds, MentionsNodes, KeepsKinds, EndsChains};
+ghost use Rattle.page_flatten.specs.Passes.{AreNumbered, NamesUnending, NamesEndless};
 ghost use Rattle.page_flatten.specs.Tables.{table_ids, AreSettled, EndsAt, EndsById, HaveSameEnds, ItsLinksEnd, IsFirstEndless, IsEndless};
 
 use crate::fault::FlatFault;
-use crate::links::{End, Link, links};
+use crate::links::{End, Link, Links, net_links};
 use crate::numbers::Numbers;
-use net_values::{Item, NetTree, RefNode, Text};
+use net_values::{Item, List, NetTree, Nets, RefNode, Text};
 use std::alloc::Global;
+
+/// The links of each net's elements, where each chain of references ends: those of references lead
+/// straight to the ends. The first reference node whose chain doesn't end is refused.
+pub fn settle_all(
+    alloc: Global,
+    nets: &Nets,
+    tables: &List<Numbers<'_>>,
+) -> Result<List<Links>, FlatFault>
+    requires numbered { AreNumbered nets.now tables.now }
+    requires mentions { AllByRecursion MentionsNodes nets.now }
+    requires kinds { AllByRecursion KeepsKinds nets.now }
+    ensures settled { IfOk result (λ links. AllZip AreSettled nets.now links) }
+    ensures chains { OnOk result (AllByRecursion EndsChains nets.now) }
+    ensures fault { IfErr result (NamesEndless nets.now) }
+{
+    let mut all = List::new(alloc);
+    for k in 0..nets.len() {
+        all.push(settled_links(alloc, nets.get(k), tables.get(k))?)?;
+    }
+    Ok(all)
+}
 
 /// The links of a net's elements, where each chain of references ends: those of references lead
 /// straight to the ends. The first reference node whose chain doesn't end is refused.
-pub fn settled_links(
-    alloc: Global,
-    net: &NetTree,
-    numbers: &Numbers<'_>,
-) -> Result<Vec<Link>, FlatFault>
+fn settled_links(alloc: Global, net: &NetTree, numbers: &Numbers<'_>) -> Result<Links, FlatFault>
     requires numbered { numbers.now ≡ entries net.now }
     requires ids { HasDistinctIds net.now }
     requires mentions { MentionsNodes net.now }
     requires kinds { KeepsKinds net.now }
-    ensures settled { IfOk result (λ links. AreSettled net.now links.items) }
+    ensures settled { IfOk result (AreSettled net.now) }
     ensures chains { OnOk result (EndsChains net.now) }
-    ensures fault { IfErr result (IsAnswered net.now) }
+    ensures fault { IfErr result (NamesUnending net.now) }
 {
-    let mut links = links(alloc, net, numbers)?;
+    let mut links = net_links(alloc, net, numbers)?;
     settle_references(alloc, net.items.as_slice(), numbers, links.as_mut_slice())?;
-    Ok(links)
+    Ok(Links::new(links))
 }
 
 /// Follows each reference node to the end of its chain, and lets the links of that chain lead

@@ -2,15 +2,16 @@ ghost use Rattle.std.specs.Prelude.{◌≡◌};
 
 use net_values::{NoMemory, Text};
 
-/// Why a document represents no flat net: the first of the five rules that it breaks, with ids of
-/// the first place in document order that breaks it, or out of memory.
+/// Why a document represents no flat net of a number: the first of the five rules that it breaks,
+/// with ids of the first place in document order that breaks it, or that it has no net of that
+/// number, or out of memory.
 #[derive(Drop)]
 pub enum FlatFault {
     /// The system refused memory.
     NoMemory,
-    /// An earlier element has this element's id. Net, pages, nodes and arcs are counted.
+    /// An earlier element has this element's id. Nets, pages, nodes and arcs are counted.
     DuplicateId(Text),
-    /// The first id is that of no node, and the element with the second one mentions it as its
+    /// The first id is that of no node of the same net, and the element with the second one mentions it as its
     /// `ref`, `source` or `target`.
     UnknownId(Text, Text),
     /// This reference node names a node of the other kind.
@@ -19,6 +20,8 @@ pub enum FlatFault {
     RefCycle(Text),
     /// The resolved ends of this arc aren't one place and one transition.
     ArcEnds(Text),
+    /// No rule is broken, and the document has only so many nets.
+    NoNet(usize),
 }
 
 impl From<NoMemory> for FlatFault {

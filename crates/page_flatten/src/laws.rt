@@ -10,12 +10,12 @@ pub fn no_fault_where_no_rule_is_broken()
     ensures { BreaksWhereFaulty }
 {}
 
-/// A document that breaks no rule has at most one flat net.
+/// Of a document that breaks no rule each net has at most one flat net.
 pub fn one_flat_net()
     ensures { HasOneFlatNet }
 {}
 
-/// A document breaks no rule and has a flat net, or has a first broken rule.
+/// A document breaks no rule and its net of a number has a flat net or is absent, or it has a first broken rule.
 pub fn a_flat_net_or_a_first_broken_rule()
     ensures { HasNetOrFault }
 {}

@@ -1,5 +1,6 @@
-//! The flat net that a document represents: pages and reference nodes are resolved away, exactly
-//! where the document breaks none of the five rules, and else the first broken rule is named.
+//! The flat net that a net of a document represents: pages and reference nodes are resolved away,
+//! exactly where the document breaks none of the five rules, and else the first broken rule is
+//! named.
 #![tactic(auto)]
 
 mod arcs;
@@ -9,6 +10,7 @@ mod flattening;
 mod laws;
 mod links;
 mod nodes;
+mod numbered;
 mod numbers;
 mod rules;
 #[cfg(test)]

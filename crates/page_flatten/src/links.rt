@@ -9,10 +9,11 @@ ghost use Rattle.net_values.specs.declared.node_kind.NodeKind.{NodeKind};
 use crate::numbers::Numbers;
 use net_values::{Item, NetTree, NoMemory, Text};
 use std::alloc::Global;
+use std::marker::Model;
 
 /// The links of the elements by their numbers: each reference node leads on to the node that it
 /// names.
-pub fn links(alloc: Global, net: &NetTree, numbers: &Numbers<'_>) -> Result<Vec<Link>, NoMemory>
+pub fn net_links(alloc: Global, net: &NetTree, numbers: &Numbers<'_>) -> Result<Vec<Link>, NoMemory>
     requires distinct { AreDistinct (table_ids numbers.now) }
     requires known { AllByRecursion (IsKnown numbers.now) (flat_map mentions net.now.items) }
     ensures { IfOk result (λ links. AreLinksOf numbers.now (elements net.now) links.items) }
@@ -30,6 +31,38 @@ pub fn links(alloc: Global, net: &NetTree, numbers: &Numbers<'_>) -> Result<Vec<
         next = next_after(item, next);
     }
     Ok(links)
+}
+
+/// The links of a net's elements. Contracts see the list of them.
+#[derive(Drop)]
+pub struct Links {
+    links: Vec<Link>,
+}
+
+impl Model for Links {
+    ghost use Rattle.std.specs.Prelude.{List};
+    ghost use Rattle.page_flatten.specs.declared.links.Link.{Link};
+
+    ghost Value = { List Link };
+
+    ghost view = { λ l. l.links.items };
+}
+
+impl Links {
+    ghost use Rattle.std.specs.Prelude.{◌≡◌};
+
+    pub fn new(links: Vec<Link>) -> Links
+        ensures { result ≡ links.items }
+    {
+        Links { links }
+    }
+
+    /// The links in the order of their elements.
+    pub fn as_slice(&self) -> &[Link]
+        ensures { result.now ≡ self.now }
+    {
+        self.links.as_slice()
+    }
 }
 
 /// What an element is to a chain of references: no node, a place or a transition, or a reference

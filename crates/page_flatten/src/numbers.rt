@@ -1,8 +1,9 @@
 ghost use Rattle.std.specs.Prelude.{◌≡◌, IfOk, IfErr};
 ghost use Rattle.std.specs.Option.{option_map};
 ghost use Rattle.page_flatten.specs.Elements.{entries};
-ghost use Rattle.page_flatten.specs.Rules.{AreDistinct, IsAnswered};
+ghost use Rattle.page_flatten.specs.Rules.{AreDistinct, ids_of};
 ghost use Rattle.page_flatten.specs.Tables.{table_ids, item_entry};
+ghost use Rattle.page_flatten.specs.Passes.{NamesRepeated};
 
 use crate::fault::FlatFault;
 use indexmap::IndexMap;
@@ -29,16 +30,33 @@ impl<'d> Model for Numbers<'d> {
 impl<'d> Numbers<'d> {
     ghost use Rattle.std.specs.Prelude.{◌≡◌, ℕ, [], ◌∷◌, ◌++◌, Some, IfSome, IfNone, IfOk, IfErr, OnOk, MatchBool, slice_get};
     ghost use Rattle.net_values.specs.declared.node_kind.NodeKind.{NodeKind};
-    ghost use Rattle.page_flatten.specs.Rules.{AreDistinct};
+    ghost use Rattle.page_flatten.specs.Elements.{entries};
+    ghost use Rattle.page_flatten.specs.Rules.{AreDistinct, ids_of};
     ghost use Rattle.page_flatten.specs.Tables.{table_ids, item_entry, IsNumbered, IsRepeated};
+    ghost use Rattle.page_flatten.specs.Passes.{NamesRepeated};
 
     /// No ids.
-    fn new(alloc: Global) -> Numbers<'d>
+    pub fn new(alloc: Global) -> Numbers<'d>
         ensures { result ≡ [] }
     {
         Numbers {
             table: IndexMap::new(alloc),
         }
+    }
+
+    /// Numbers the elements of a net: the net, then its pages, nodes and arcs in document order. The
+    /// first one whose id an earlier element has is refused.
+    pub fn add_net(&mut self, alloc: Global, net: &'d NetTree) -> Result<(), FlatFault>
+        requires { AreDistinct (table_ids self.old) }
+        ensures numbered { OnOk result (self.new ≡ self.old ++ entries net.now) }
+        ensures distinct { OnOk result (AreDistinct (table_ids self.new)) }
+        ensures fault { IfErr result (NamesRepeated (table_ids self.old ++ ids_of net.now)) }
+    {
+        self.add_element(alloc, &net.id, None)?;
+        for item in net.items.as_slice() {
+            self.add_item(alloc, item)?;
+        }
+        Ok(())
     }
 
     /// Numbers the element that begins with an item, if one does. It is refused where an earlier
@@ -47,13 +65,26 @@ impl<'d> Numbers<'d> {
         ensures ok { OnOk result (IsNumbered self.old self.new (item_entry item.now)) }
         ensures fault { IfErr result (IsRepeated self.old (item_entry item.now)) }
     {
-        let Some(entry) = entry_of_item(item) else {
-            return Ok(());
-        };
-        if self.add(entry.id, entry.kind)? {
+        match entry_of_item(item) {
+            Some(entry) => self.add_element(alloc, entry.id, entry.kind),
+            None => Ok(()),
+        }
+    }
+
+    /// Numbers an element. It is refused where an earlier one has its id.
+    fn add_element(
+        &mut self,
+        alloc: Global,
+        id: &'d Text,
+        kind: Option<NodeKind>,
+    ) -> Result<(), FlatFault>
+        ensures ok { OnOk result (IsNumbered self.old self.new (Some (id.now, kind))) }
+        ensures fault { IfErr result (IsRepeated self.old (Some (id.now, kind))) }
+    {
+        if self.add(id, kind)? {
             Ok(())
         } else {
-            Err(FlatFault::DuplicateId(entry.id.copy(alloc)?))
+            Err(FlatFault::DuplicateId(id.copy(alloc)?))
         }
     }
 
@@ -92,18 +123,14 @@ impl<'d> Numbers<'d> {
     }
 }
 
-/// Numbers the elements of a net: the net, then its pages, nodes and arcs in document order. The
-/// first one whose id an earlier element has is refused.
+/// The numbers of the elements of a net. The first one whose id an earlier element has is refused.
 pub fn number_elements<'d>(alloc: Global, net: &'d NetTree) -> Result<Numbers<'d>, FlatFault>
     ensures numbered { IfOk result (λ numbers. numbers ≡ entries net.now) }
     ensures distinct { IfOk result (λ numbers. AreDistinct (table_ids numbers)) }
-    ensures fault { IfErr result (IsAnswered net.now) }
+    ensures fault { IfErr result (NamesRepeated (ids_of net.now)) }
 {
     let mut numbers = Numbers::new(alloc);
-    numbers.add(&net.id, None)?;
-    for item in net.items.as_slice() {
-        numbers.add_item(alloc, item)?;
-    }
+    numbers.add_net(alloc, net)?;
     Ok(numbers)
 }
 

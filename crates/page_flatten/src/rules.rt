@@ -1,35 +1,32 @@
-ghost use Rattle.std.specs.Prelude.{◌≡◌, ◌∷◌, [], MatchBool, IfOk, OnOk, IfErr};
+ghost use Rattle.std.specs.Prelude.{◌∷◌, [], MatchBool, OnOk, IfErr};
 ghost use Rattle.std.specs.List.{AllByRecursion, flat_map};
-ghost use Rattle.page_flatten.specs.Elements.{entries, mentions, references, reference_of};
-ghost use Rattle.page_flatten.specs.Rules.{AreDistinct, HasDistinctIds, MentionsNodes, KeepsKinds, IsAnswered, NamesNode, IsKnown, NamesItsKind};
+ghost use Rattle.page_flatten.specs.Elements.{mentions, references, reference_of};
+ghost use Rattle.page_flatten.specs.Rules.{AreDistinct, MentionsNodes, KeepsKinds, NamesNode, IsKnown, NamesItsKind};
 ghost use Rattle.page_flatten.specs.Tables.{table_ids, IsFirstUnknown, IsFirstOfWrongKind};
+ghost use Rattle.page_flatten.specs.Passes.{AreNumbered, NamesUnknown, NamesWrongKind};
 
 use crate::fault::FlatFault;
-use crate::numbers::{Numbers, number_elements};
-use net_values::{Item, NetTree, NodeKind, RefNode, Text};
+use crate::numbers::Numbers;
+use net_values::{Item, List, Nets, NodeKind, RefNode, Text};
 use std::alloc::Global;
 
-/// The numbers of a net's elements, where its ids are distinct, each `ref`, `source` and `target` is
-/// the id of a node, and each reference names a node of its kind. The first of these rules that is
-/// broken is refused.
-pub fn checked_numbers<'d>(alloc: Global, net: &'d NetTree) -> Result<Numbers<'d>, FlatFault>
-    ensures numbered { IfOk result (λ numbers. numbers ≡ entries net.now) }
-    ensures ids { OnOk result (HasDistinctIds net.now) }
-    ensures mentions { OnOk result (MentionsNodes net.now) }
-    ensures kinds { OnOk result (KeepsKinds net.now) }
-    ensures fault { IfErr result (IsAnswered net.now) }
+/// Refuses the first `ref`, `source` or `target` that is the id of no node of its net.
+pub fn check_all_mentions(
+    alloc: Global,
+    nets: &Nets,
+    tables: &List<Numbers<'_>>,
+) -> Result<(), FlatFault>
+    requires { AreNumbered nets.now tables.now }
+    ensures ok { OnOk result (AllByRecursion MentionsNodes nets.now) }
+    ensures fault { IfErr result (NamesUnknown nets.now) }
 {
-    let numbers = match number_elements(alloc, net) {
-        Ok(numbers) => numbers,
-        Err(fault) => return Err(fault),
-    };
-    let items = net.items.as_slice();
-    check_mentions(alloc, items, &numbers)?;
-    check_kinds(alloc, items, &numbers)?;
-    Ok(numbers)
+    for k in 0..nets.len() {
+        check_mentions(alloc, nets.get(k).items.as_slice(), tables.get(k))?;
+    }
+    Ok(())
 }
 
-/// Refuses the first `ref`, `source` or `target` that is the id of no node.
+/// The same for the items of a net.
 fn check_mentions(alloc: Global, items: &[Item], numbers: &Numbers<'_>) -> Result<(), FlatFault>
     requires { AreDistinct (table_ids numbers.now) }
     ensures ok { OnOk result (AllByRecursion (IsKnown numbers.now) (flat_map mentions items.now)) }
@@ -77,6 +74,22 @@ fn check_mention(
 }
 
 /// Refuses the first reference node that names a node of the other kind.
+pub fn check_all_kinds(
+    alloc: Global,
+    nets: &Nets,
+    tables: &List<Numbers<'_>>,
+) -> Result<(), FlatFault>
+    requires { AreNumbered nets.now tables.now }
+    ensures ok { OnOk result (AllByRecursion KeepsKinds nets.now) }
+    ensures fault { IfErr result (NamesWrongKind nets.now) }
+{
+    for k in 0..nets.len() {
+        check_kinds(alloc, nets.get(k).items.as_slice(), tables.get(k))?;
+    }
+    Ok(())
+}
+
+/// The same for the items of a net.
 fn check_kinds(alloc: Global, items: &[Item], numbers: &Numbers<'_>) -> Result<(), FlatFault>
     requires { AreDistinct (table_ids numbers.now) }
     ensures ok { OnOk result

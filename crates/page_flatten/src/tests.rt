@@ -1,10 +1,11 @@
 mod chains;
+mod documents;
 mod faults;
 mod nets;
 
 use Given::{Arc, Page, PageEnd, Place, RefPlace, RefTransition, Transition};
 use net_values::{
-    ArcNode, Document, Item, Items, NetTree, NoMemory, PageNode, PlaceNode, RefNode, Text,
+    ArcNode, Document, Item, Items, NetTree, Nets, NoMemory, PageNode, PlaceNode, RefNode, Text,
     TransitionNode,
 };
 use std::alloc::Global;
@@ -24,15 +25,28 @@ enum Given {
 
 /// The document of a net with the id `n` and these items.
 fn document(alloc: Global, items: &[Given]) -> Result<Document, NoMemory> {
-    let mut tree = NetTree {
-        id: text(alloc, "n")?,
-        name: None,
-        items: Items::new(alloc),
-    };
-    for given in items {
-        tree.items.push(item(alloc, *given)?)?;
+    document_of(alloc, &[("n", items)])
+}
+
+/// The document of nets with these ids and items.
+fn document_of(alloc: Global, given: &[(&str, &[Given])]) -> Result<Document, NoMemory> {
+    let mut nets = Nets::new(alloc);
+    for (id, items) in given {
+        nets.push(net(alloc, id, *items)?)?;
     }
-    Ok(Document { net: tree })
+    Ok(Document { nets })
+}
+
+fn net(alloc: Global, id: &str, given: &[Given]) -> Result<NetTree, NoMemory> {
+    let mut items = Items::new(alloc);
+    for one in given {
+        items.push(item(alloc, *one)?)?;
+    }
+    Ok(NetTree {
+        id: text(alloc, id)?,
+        name: None,
+        items,
+    })
 }
 
 fn item(alloc: Global, given: Given) -> Result<Item, NoMemory> {

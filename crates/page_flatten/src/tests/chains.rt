@@ -1,9 +1,9 @@
 use super::Given::{Arc, Place, Transition};
 use super::faults::{Named, lent};
 use super::nets::{Net, check_net};
-use super::{document, reference};
+use super::{net, reference};
 use crate::flatten;
-use net_values::Item;
+use net_values::{Document, Item, Nets};
 use pnml_grammar::is_valued;
 use std::test::Fail;
 
@@ -32,8 +32,9 @@ const CHAINS: [(usize, bool, bool); 7] = [
 fn long_chains_end_or_lead_round(rt: HostRuntime) -> Result<(), Fail> {
     let alloc = rt.alloc();
     for (count, is_forward, is_cycle) in &CHAINS {
-        let mut document = document(
+        let mut tree = net(
             alloc,
+            "n",
             &[Place("p", 5), Transition("t"), Arc("a", "r0", "t", 1)],
         )?;
         for i in 0usize..*count {
@@ -46,13 +47,16 @@ fn long_chains_end_or_lead_round(rt: HostRuntime) -> Result<(), Fail> {
                 format!(in alloc; "r{}", next % *count)?
             };
             let node = reference(alloc, id.as_str(), target.as_str())?;
-            document.net.items.push(Item::RefPlace(node))?;
+            tree.items.push(Item::RefPlace(node))?;
         }
+        let mut nets = Nets::new(alloc);
+        nets.push(tree)?;
+        let document = Document { nets };
         assert!(rt; is_valued(&document));
-        match flatten(alloc, &document) {
-            Ok(net) => {
+        match flatten(alloc, &document, 0) {
+            Ok(flat) => {
                 assert!(rt; !*is_cycle);
-                check_net(&rt, &net, &JOINED);
+                check_net(&rt, &flat, &JOINED);
             }
             Err(fault) => {
                 assert!(rt; *is_cycle);

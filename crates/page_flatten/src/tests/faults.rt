@@ -1,7 +1,7 @@
 use super::Given::{self, Arc, Page, PageEnd, Place, RefPlace, RefTransition, Transition};
 use super::document;
 use crate::{FlatFault, flatten};
-use Named::{ArcEnds, DuplicateId, RefCycle, RefKind, UnknownId};
+use Named::{ArcEnds, DuplicateId, NoNet, RefCycle, RefKind, UnknownId};
 use pnml_grammar::is_valued;
 use std::test::Fail;
 
@@ -13,6 +13,7 @@ pub enum Named<'a> {
     RefKind(&'a str),
     RefCycle(&'a str),
     ArcEnds(&'a str),
+    NoNet(usize),
 }
 
 const FAULTS: [(&[Given], Named<'static>); 45] = [
@@ -202,7 +203,7 @@ fn the_first_broken_rule_is_named(rt: HostRuntime) -> Result<(), Fail> {
     for (items, wanted) in &FAULTS {
         let document = document(alloc, *items)?;
         assert!(rt; is_valued(&document));
-        match flatten(alloc, &document) {
+        match flatten(alloc, &document, 0) {
             Ok(_) => panic!(rt; "a flat net"),
             Err(fault) => assert_eq!(rt; lent(&fault), Some(*wanted)),
         }
@@ -218,5 +219,6 @@ pub fn lent(fault: &FlatFault) -> Option<Named<'_>> {
         FlatFault::RefKind(id) => Some(RefKind(id.as_str())),
         FlatFault::RefCycle(id) => Some(RefCycle(id.as_str())),
         FlatFault::ArcEnds(id) => Some(ArcEnds(id.as_str())),
+        FlatFault::NoNet(count) => Some(NoNet(*count)),
     }
 }

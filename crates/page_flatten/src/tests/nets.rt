@@ -139,7 +139,7 @@ fn documents_have_their_flat_nets(rt: HostRuntime) -> Result<(), Fail> {
     for (items, wanted) in &NETS {
         let document = document(alloc, *items)?;
         assert!(rt; is_valued(&document));
-        match flatten(alloc, &document) {
+        match flatten(alloc, &document, 0) {
             Ok(net) => check_net(&rt, &net, wanted),
             Err(_) => panic!(rt; "a fault"),
         }
