@@ -19,6 +19,7 @@ counted_words counted.Transitions = codes "too many transitions"
 counted_words counted.Arcs = codes "too many arcs"
 counted_words counted.References = codes "too many reference nodes"
 counted_words counted.Pages = codes "too many pages"
+counted_words counted.Nets = codes "too many nets"
 counted_words counted.NameBytes = codes "too many name bytes"
 
 abbrev pub reason_words : Reason → List ℕ
@@ -52,13 +53,19 @@ unknown_line id by = joined (codes "document refused: unknown id " ∷ id ∷ co
 abbrev pub memory_line : List ℕ
 memory_line = codes "out of memory\n"
 
-abbrev pub rule_line : FlatFault → List ℕ
-rule_line rules.NoMemory = memory_line
-rule_line (rules.DuplicateId id) = id_line (codes "duplicate id") id
-rule_line (rules.UnknownId id by) = unknown_line id by
-rule_line (rules.RefKind id) = id_line (codes "wrong reference kind") id
-rule_line (rules.RefCycle id) = id_line (codes "reference cycle") id
-rule_line (rules.ArcEnds id) = id_line (codes "wrong arc ends") id
+-- it has no net of the number that is asked for, counted from 1
+unfoldable pub no_net_line : ℕ → List ℕ
+no_net_line k = joined (codes "document refused: no net " ∷ decimal k ∷ codes "\n" ∷ [])
+
+-- the fault of a document whose net k is asked for
+abbrev pub rule_line : ℕ → FlatFault → List ℕ
+rule_line k rules.NoMemory = memory_line
+rule_line k (rules.DuplicateId id) = id_line (codes "duplicate id") id
+rule_line k (rules.UnknownId id by) = unknown_line id by
+rule_line k (rules.RefKind id) = id_line (codes "wrong reference kind") id
+rule_line k (rules.RefCycle id) = id_line (codes "reference cycle") id
+rule_line k (rules.ArcEnds id) = id_line (codes "wrong arc ends") id
+rule_line k (rules.NoNet count) = no_net_line k
 
 -- an elimination fails at the column of an id
 unfoldable pub wide_line : List ℕ → List ℕ → List ℕ
@@ -111,7 +118,7 @@ wide_marking_line member id = joined (codes "wide marking at line " ∷ decimal 
 
 -- the words mean nothing, the input is too long, a device failed
 abbrev pub usage_line : List ℕ
-usage_line = codes "usage: pnmlstruct TASK [--rows N] [--sets N], or pnmlstruct sample N\n"
+usage_line = codes "usage: pnmlstruct TASK [--net K] [--rows N] [--sets N], or pnmlstruct sample N\n"
 
 abbrev pub length_line : List ℕ
 length_line = codes "input too long\n"

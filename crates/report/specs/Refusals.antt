@@ -26,6 +26,7 @@ rule_status (rules.UnknownId id by) = 3
 rule_status (rules.RefKind id) = 3
 rule_status (rules.RefCycle id) = 3
 rule_status (rules.ArcEnds id) = 3
+rule_status (rules.NoNet count) = 3
 
 abbrev pub excess_status : Excess → ℕ
 excess_status (WideSum id) = 4
@@ -39,7 +40,7 @@ excess_status (SetLimit limit) = 6
 abbrev pub status_of : Refusal → ℕ
 status_of Usage = 2
 status_of (Document fault) = document_status fault
-status_of (Rule fault) = rule_status fault
+status_of (Rule k fault) = rule_status fault
 status_of (Exceeds excess) = excess_status excess
 status_of (Malformed number) = 1
 status_of (Rejected number) = 1
@@ -68,7 +69,7 @@ excess_line (SetLimit limit) = limit_line limit
 abbrev pub line_of : Refusal → List ℕ
 line_of Usage = usage_line
 line_of (Document fault) = fault_line fault
-line_of (Rule fault) = rule_line fault
+line_of (Rule k fault) = rule_line k fault
 line_of (Exceeds excess) = excess_line excess
 line_of (Malformed number) = malformed_line number
 line_of (Rejected number) = rejected_line number

@@ -1,6 +1,6 @@
 ghost use Rattle.std.specs.Prelude.{map};
 ghost use Rattle.pnml_source.specs.Writing.{IsWritten};
-ghost use Rattle.report.specs.FaultLines.{joined, offset_line, id_line, unknown_line, rule_line, wide_line, wide_bound_line, wide_check_line, wide_marking_line, numbered_line, firing_rejected_line, budget_line, limit_line};
+ghost use Rattle.report.specs.FaultLines.{joined, offset_line, id_line, unknown_line, no_net_line, rule_line, wide_line, wide_bound_line, wide_check_line, wide_marking_line, numbered_line, firing_rejected_line, budget_line, limit_line};
 ghost use Rattle.report.specs.Refusals.{line_of, fault_line, excess_line};
 
 use crate::reason_words::reason_words;
@@ -18,10 +18,10 @@ pub fn tell<O: Sink>(sink: &mut O, refusal: &Refusal) -> Result<(), WriteFault>
     match refusal {
         Refusal::Usage => write_all(
             sink,
-            b"usage: pnmlstruct TASK [--rows N] [--sets N], or pnmlstruct sample N\n",
+            b"usage: pnmlstruct TASK [--net K] [--rows N] [--sets N], or pnmlstruct sample N\n",
         ),
         Refusal::Document(fault) => tell_document(sink, fault),
-        Refusal::Rule(fault) => tell_rule(sink, fault),
+        Refusal::Rule(net, fault) => tell_rule(sink, *net, fault),
         Refusal::Excess(excess) => tell_excess(sink, excess),
         Refusal::Malformed(number) => tell_line(sink, b"certificate malformed", *number),
         Refusal::Rejected(number) => tell_line(sink, b"certificate rejected", *number),
@@ -46,9 +46,9 @@ fn tell_document<O: Sink>(sink: &mut O, fault: &DocFault) -> Result<(), WriteFau
     }
 }
 
-/// Which rule the document breaks, and where.
-fn tell_rule<O: Sink>(sink: &mut O, fault: &FlatFault) -> Result<(), WriteFault>
-    ensures { IsWritten (O.held sink.old) (O.held sink.new) (O.faults sink.old) (O.faults sink.new) (rule_line fault.now) result }
+/// Which rule the document breaks, and where, or that it has no net of this number.
+fn tell_rule<O: Sink>(sink: &mut O, net: u32, fault: &FlatFault) -> Result<(), WriteFault>
+    ensures { IsWritten (O.held sink.old) (O.held sink.new) (O.faults sink.old) (O.faults sink.new) (rule_line net fault.now) result }
 {
     match fault {
         FlatFault::NoMemory => write_all(sink, b"out of memory\n"),
@@ -57,6 +57,7 @@ fn tell_rule<O: Sink>(sink: &mut O, fault: &FlatFault) -> Result<(), WriteFault>
         FlatFault::RefKind(id) => tell_id(sink, b"wrong reference kind", id),
         FlatFault::RefCycle(id) => tell_id(sink, b"reference cycle", id),
         FlatFault::ArcEnds(id) => tell_id(sink, b"wrong arc ends", id),
+        FlatFault::NoNet(_) => tell_no_net(sink, net),
     }
 }
 
@@ -230,6 +231,16 @@ fn tell_unknown<O: Sink>(sink: &mut O, id: &Text, by: &Text) -> Result<(), Write
             b"\n",
         ],
     )
+}
+
+/// The number of a net that the document lacks.
+#[tactic(auto, unfolding(crate::specs::FaultLines::no_net_line))]
+fn tell_no_net<O: Sink>(sink: &mut O, net: u32) -> Result<(), WriteFault>
+    ensures { IsWritten (O.held sink.old) (O.held sink.new) (O.faults sink.old) (O.faults sink.new) (no_net_line net) result }
+{
+    let mut buffer = Buffer::new();
+    let number = buffer.format(net).as_bytes();
+    write_pieces(sink, &[b"document refused: no net ", number, b"\n"])
 }
 
 /// Writes the pieces, one after the other.

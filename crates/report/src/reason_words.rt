@@ -30,6 +30,7 @@ fn counted_words(counted: Counted) -> &'static [u8]
         Counted::Arcs => b"too many arcs",
         Counted::References => b"too many reference nodes",
         Counted::Pages => b"too many pages",
+        Counted::Nets => b"too many nets",
         Counted::NameBytes => b"too many name bytes",
     }
 }

@@ -13,8 +13,8 @@ pub enum Refusal {
     Usage,
     /// The input spells no document.
     Document(DocFault),
-    /// The document breaks a rule.
-    Rule(FlatFault),
+    /// The document breaks a rule, or has no net of this number, counted from 1.
+    Rule(u32, FlatFault),
     /// A number is out of range, or a list out of reach.
     Excess(Excess),
     /// The bytes behind the document spell no certificate, by this line, counted from 1.
@@ -64,7 +64,7 @@ pub fn status(refusal: &Refusal) -> u8
     match refusal {
         Refusal::Usage => 2,
         Refusal::Document(fault) => status_of_document(fault),
-        Refusal::Rule(fault) => status_of_rule(fault),
+        Refusal::Rule(_, fault) => status_of_rule(fault),
         Refusal::Excess(excess) => status_of_excess(excess),
         Refusal::Malformed(_)
         | Refusal::Rejected(_)
@@ -126,16 +126,6 @@ impl From<DocFault> for Refusal {
 
     fn from(fault: DocFault) -> Refusal {
         Refusal::Document(fault)
-    }
-}
-
-impl From<FlatFault> for Refusal {
-    ghost use Rattle.report.specs.declared.refusal.Refusal.{Refusal};
-
-    ghost from_gives = { λ fault refusal. refusal ≡ Refusal.Rule fault };
-
-    fn from(fault: FlatFault) -> Refusal {
-        Refusal::Rule(fault)
     }
 }
 

@@ -1,7 +1,8 @@
 use super::*;
 use certificates::{BoundLines, Certificate, Claims, Flows, PlaceList, TreeLines};
 use net_class::{Class, Verdict};
-use net_values::{Document, FlatNet, Items, NetTree, NoMemory, PlaceSet, Rows, Sets, Text, Vector};
+use net_values::{Document, FlatNet, Nets, NoMemory, PlaceSet, Rows, Sets, Text, Vector};
+use page_flatten::FlatFault;
 use pnml_source::MemorySink;
 use std::alloc::Global;
 use std::process::Abort;
@@ -42,14 +43,10 @@ fn small_net(rt: &impl Abort, alloc: Global) -> Result<FlatNet, NoMemory> {
     Ok(net)
 }
 
-/// A document without items, whose id counts for nothing.
+/// A document without nets, which counts for nothing.
 fn empty_document(alloc: Global) -> Document {
     Document {
-        net: NetTree {
-            id: Text::new(alloc),
-            name: None,
-            items: Items::new(alloc),
-        },
+        nets: Nets::new(alloc),
     }
 }
 
@@ -225,6 +222,7 @@ enum Refused {
     WideCheck(usize),
     RowBudget,
     SetLimit,
+    NoNet(u32),
     Malformed(u64),
     Rejected(u64),
     MalformedFiring(u64),
@@ -233,11 +231,11 @@ enum Refused {
     TooLong,
 }
 
-const LINES: [(Refused, u8, &str); 14] = [
+const LINES: [(Refused, u8, &str); 15] = [
     (
         Refused::Usage,
         2,
-        "usage: pnmlstruct TASK [--rows N] [--sets N], or pnmlstruct sample N\n",
+        "usage: pnmlstruct TASK [--net K] [--rows N] [--sets N], or pnmlstruct sample N\n",
     ),
     (Refused::WideSum, 4, "wide sum at é<\n"),
     (Refused::WideRow, 4, "wide row at é<\n"),
@@ -254,6 +252,7 @@ const LINES: [(Refused, u8, &str); 14] = [
         "row budget 5 passed at é<: 12 candidates\n",
     ),
     (Refused::SetLimit, 6, "set limit 7 passed\n"),
+    (Refused::NoNet(3), 3, "document refused: no net 3\n"),
     (
         Refused::Malformed(1),
         1,
@@ -289,6 +288,7 @@ fn refusal(alloc: Global, refused: Refused) -> Result<Refusal, NoMemory> {
         Refused::WideCheck(row) => Refusal::Excess(Excess::WideCheck(row, id)),
         Refused::RowBudget => Refusal::Excess(Excess::RowBudget(5, id, 12)),
         Refused::SetLimit => Refusal::Excess(Excess::SetLimit(7)),
+        Refused::NoNet(number) => Refusal::Rule(number, FlatFault::NoNet(2)),
         Refused::Malformed(number) => Refusal::Malformed(number),
         Refused::Rejected(number) => Refusal::Rejected(number),
         Refused::MalformedFiring(number) => Refusal::MalformedFiring(number),
