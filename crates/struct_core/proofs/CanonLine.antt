@@ -11,9 +11,9 @@ use Rattle.net_values.specs.declared.document.Item.{Item}
 use Rattle.net_values.specs.declared.document.Item.TheVariants.{Page, PageEnd, Place, Transition, RefPlace, RefTransition, Arc}
 use Rattle.net_values.specs.declared.document.NetTree.{NetTree}
 use Rattle.certificates.proofs.DecimalTexts.{IsDigit, decimal_digits}
-use Rattle.pnml_grammar.specs.Canon.{escaped, attribute, start_tag, end_tag, empty_tag, element, label, name_text, marking_text, weight_text, id_attribute, item_text, items_text, namespace, net_type, net_text, declaration, canon}
+use Rattle.pnml_grammar.specs.Canon.{escaped, attribute, start_tag, end_tag, empty_tag, element, label, name_text, marking_text, weight_text, id_attribute, item_text, items_text, namespace, net_type, net_text, nets_text, declaration, canon}
 use Rattle.pnml_grammar.specs.Characters.{Each}
-use Rattle.pnml_grammar.specs.Valued.{HasValuesInRange, Valued}
+use Rattle.pnml_grammar.specs.Valued.{HasValuesInRange, IsValuedNet, Valued}
 use Rattle.pnml_grammar.proofs.EscapeLaws.{is_clean, escaped_clean}
 use Rattle.struct_core.specs.Inputs.{line_length, first_line, after_first_line}
 
@@ -140,6 +140,10 @@ net_plain net fits =
     element_plain (codes "net") (id_attribute net.id ++ attribute (codes "type") net_type) (name_text net.name ++ items_text net.items) refl
     (one_id net.id (codes "type") net_type refl) (both (name_text net.name) (items_text net.items) (name_plain net.name) (items_plain net.items fits))
 
+nets_plain : (nets : List NetTree) → AllByRecursion IsValuedNet nets → IsPlain (nets_text nets)
+nets_plain [] valued = refl
+nets_plain (net ∷ nets) valued = both (net_text net) (nets_text nets) (net_plain net valued.0.items) (nets_plain nets valued.1)
+
 declaration_plain : IsPlain declaration
 unfolding declaration
 declaration_plain = refl
@@ -157,8 +161,8 @@ canon_line document valued =
     let close = end_tag (codes "pnml") in
     let begun : IsPlain (declaration ++ root) =
     both declaration root declaration_plain (start_plain (codes "pnml") (attribute (codes "xmlns") namespace) refl (attribute_plain (codes "xmlns") namespace refl)) in
-    let front : IsPlain (declaration ++ root ++ net_text document.net) = both (declaration ++ root) (net_text document.net) begun (net_plain document.net valued.items) in
-    (declaration ++ root ++ net_text document.net ++ close, both (declaration ++ root ++ net_text document.net) close front (end_plain (codes "pnml") refl), refl)
+    let front : IsPlain (declaration ++ root ++ nets_text document.nets) = both (declaration ++ root) (nets_text document.nets) begun (nets_plain document.nets valued.nets) in
+    (declaration ++ root ++ nets_text document.nets ++ close, both (declaration ++ root ++ nets_text document.nets) close front (end_plain (codes "pnml") refl), refl)
 
 one_more : (n : ℕ) → 1 + n + 1 ≡ suc (n + 1)
 one_more n = omega arith

@@ -149,13 +149,13 @@ task_completes tasks.Replay budgets document net rest status text narrow few fin
 
 -- ---- the run
 
-module _ (words : List (List ℕ)) (task : Task) (budgets : Budgets) (source source' out out' : Device) (status : ℕ) (line : List ℕ)
+module _ (words : List (List ℕ)) (task : Task) (k : ℕ) (budgets : Budgets) (source source' out out' : Device) (status : ℕ) (line : List ℕ)
     (input : List ℕ) (document : Document) (net : NetLists) (ran : Ran words source source' out out' status line)
-    (means : Means words (Run task budgets)) (reads : IsQuiet source source') (writes : IsQuiet out out') (tells : source.bytes ≡ Some input)
-    (short : IsShort task input document) (flat : Flat document net) (narrow : IsNarrow task budgets net) (few : IsFew task budgets net)
+    (means : Means words (Run task k budgets)) (reads : IsQuiet source source') (writes : IsQuiet out out') (tells : source.bytes ≡ Some input)
+    (short : IsShort task input document) (flat : Flat document k net) (narrow : IsNarrow task budgets net) (few : IsFew task budgets net)
     (fine : IsFollowed task net (rest_of task input)) where
   not_usage : status ≢ 2
-  not_usage is = ran.usage is (Run task budgets) means
+  not_usage is = ran.usage is (Run task k budgets) means
 
   not_read_fault : status ≢ 8
   not_read_fault is = no_fault source source' reads (ran.reads.cause is)
@@ -169,39 +169,39 @@ module _ (words : List (List ℕ)) (task : Task) (budgets : Budgets) (source sou
   read_of : (a : Answered words source source' out out' status line) → a.input ≡ input
   read_of a =
       let whole : IsReadWhole source source' a.input =
-      subst (λ (order : Order). ReadsFor order source source' a.input) (one_order words a.order (Run task budgets) a.means means) a.reads in
+      subst (λ (order : Order). ReadsFor order source source' a.input) (one_order words a.order (Run task k budgets) a.means means) a.reads in
       whole_is source'.bytes input a.input (subst (λ (left : Option (List ℕ)). Consumes left source'.bytes a.input) tells whole.read) whole.whole
 
   -- the outcome of the run is that of the order for the input
-  outcome_is : (a : Answered words source source' out out' status line) → Outcome (Run task budgets) input a.outcome a.text
+  outcome_is : (a : Answered words source source' out out' status line) → Outcome (Run task k budgets) input a.outcome a.text
   outcome_is a =
       let read = read_of a in
-      subst (λ (order : Order). Outcome order input a.outcome a.text) (one_order words a.order (Run task budgets) a.means means)
+      subst (λ (order : Order). Outcome order input a.outcome a.text) (one_order words a.order (Run task k budgets) a.means means)
       (subst (λ (bytes : List ℕ). Outcome a.order bytes a.outcome a.text) read a.comes)
 
   answered_zero : (a : Answered words source source' out out' status line) → a.outcome ≡ 0
   answered_zero a =
       task_completes task budgets document net (rest_of task input) a.outcome a.text narrow few fine
-      (task_answers task budgets input document net a.outcome a.text short.profile flat (outcome_is a))
+      (task_answers task k budgets input document net a.outcome a.text short.profile flat (outcome_is a))
 
-  ends : (a : Answered words source source' out out' status line) → (status ≡ 0) ⊎ (status ≡ 9) → WritesText (Run task budgets) input out out' status
+  ends : (a : Answered words source source' out out' status line) → (status ≡ 0) ⊎ (status ≡ 9) → WritesText (Run task k budgets) input out out' status
   ends a (inl done) = record {
     text = a.text;
-    comes = subst (λ (n : ℕ). Outcome (Run task budgets) input n a.text) (answered_zero a) (outcome_is a);
+    comes = subst (λ (n : ℕ). Outcome (Run task k budgets) input n a.text) (answered_zero a) (outcome_is a);
     done = done;
     written = a.done done;
   }
   ends a (inr cut) = absurd (no_fault out out' writes (a.cut cut).0)
 
-  completes : (status ≡ 10) ⊎ (status ≢ 10) → WritesText (Run task budgets) input out out' status ⊎ (status ≡ 10)
+  completes : (status ≡ 10) ⊎ (status ≢ 10) → WritesText (Run task k budgets) input out out' status ⊎ (status ≡ 10)
   completes (inl memory) = inr memory
   completes (inr answers) =
       let a : Answered words source source' out out' status line = ran.answered (not_usage, not_long, not_read_fault, answers) in
       inl (ends a (a.follows (answered_zero a)))
 
 quiet_tasks : QuietTasksComplete
-quiet_tasks words task budgets source source' out out' err err' status input document net run means reads writes tells short flat narrow few fine =
-    completes words task budgets source source' out out' status run.line input document net run.ran means reads writes tells short flat narrow few fine
+quiet_tasks words task k budgets source source' out out' err err' status input document net run means reads writes tells short flat narrow few fine =
+    completes words task k budgets source source' out out' status run.line input document net run.ran means reads writes tells short flat narrow few fine
     (cases_eq status 10)
 
 -- ---- a sample
@@ -228,7 +228,7 @@ for_any_input : (n : ℕ) (bytes input : List ℕ) (status : ℕ) (text : List �
 for_any_input _ _ input _ _ (sample n bytes net status text range flat outcome) = sample n input net status text range flat outcome
 
 module _ (words : List (List ℕ)) (n : ℕ) (source source' out out' : Device) (status : ℕ) (line : List ℕ) (input : List ℕ) (net : NetLists)
-    (ran : Ran words source source' out out' status line) (means : Means words (Sample n)) (writes : IsQuiet out out') (flat : Flat (sample_document n) net)
+    (ran : Ran words source source' out out' status line) (means : Means words (Sample n)) (writes : IsQuiet out out') (flat : Flat (sample_document n) 1 net)
     (within : AllByRecursion (λ task. IsNarrow task default_budgets net × IsFew task default_budgets net) sample_tasks) where
   sample_is : (a : Answered words source source' out out' status line) → Outcome (Sample n) a.input a.outcome a.text
   sample_is a = subst (λ (order : Order). Outcome order a.input a.outcome a.text) (one_order words a.order (Sample n) a.means means) a.comes

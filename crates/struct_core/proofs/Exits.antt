@@ -72,9 +72,9 @@ quiet_read source source' status kept taken not_usage not_long not_failed = reco
 -- ---- `sample`
 
 -- words that mean a task mean no sample
-no_sample : (words : List (List ℕ)) (task : Task) (budgets : Budgets) (source source' : Device) (status n : ℕ) → Means words (Run task budgets) → Means words (Sample n)
+no_sample : (words : List (List ℕ)) (task : Task) (k : ℕ) (budgets : Budgets) (source source' : Device) (status n : ℕ) → Means words (Run task k budgets) → Means words (Sample n)
     → ReadsNothing source source' status
-no_sample words task budgets source source' status n means also = absurd (let same = one_order words (Run task budgets) (Sample n) means also in cc)
+no_sample words task k budgets source source' status n means also = absurd (let same = one_order words (Run task k budgets) (Sample n) means also in cc)
 
 -- and those that mean a sample read what it reads
 sample_reads : (words : List (List ℕ)) (order : Order) (source source' : Device) (input : List ℕ) (status n : ℕ) → Means words order → ReadsFor order source source' input
@@ -104,23 +104,23 @@ no_order words source out void = record {
   own = λ is. usage;
 }
 
-pub read_failed : (words : List (List ℕ)) (task : Task) (budgets : Budgets) (source source' out : Device) → Means words (Run task budgets) → Rose source.faults source'.faults → Ran words source source' out out 8 read_line
-read_failed words task budgets source source' out means rose = record {
-  meant = λ other. (Run task budgets, means);
+pub read_failed : (words : List (List ℕ)) (task : Task) (k : ℕ) (budgets : Budgets) (source source' out : Device) → Means words (Run task k budgets) → Rose source.faults source'.faults → Ran words source source' out out 8 read_line
+read_failed words task k budgets source source' out means rose = record {
+  meant = λ other. (Run task k budgets, means);
   usage = λ is. absurd (omega (arith, is));
-  sample = λ n also. no_sample words task budgets source source' 8 n means also;
+  sample = λ n also. no_sample words task k budgets source source' 8 n means also;
   reads = failing_read source source' rose;
   answered = λ other. absurd (other.2 refl);
   writes = nothing_written out 8;
   own = λ is. read_fault;
 }
 
-pub input_too_long : (words : List (List ℕ)) (task : Task) (budgets : Budgets) (source source' out : Device) → Means words (Run task budgets) → source'.faults ≡ source.faults
+pub input_too_long : (words : List (List ℕ)) (task : Task) (k : ℕ) (budgets : Budgets) (source source' out : Device) → Means words (Run task k budgets) → source'.faults ≡ source.faults
     → TakesExactly source.bytes source'.bytes (MAX_INPUT_BYTES + 1) → Ran words source source' out out 7 length_line
-input_too_long words task budgets source source' out means kept taken = record {
-  meant = λ other. (Run task budgets, means);
+input_too_long words task k budgets source source' out means kept taken = record {
+  meant = λ other. (Run task k budgets, means);
   usage = λ is. absurd (omega (arith, is));
-  sample = λ n also. no_sample words task budgets source source' 7 n means also;
+  sample = λ n also. no_sample words task k budgets source source' 7 n means also;
   reads = overlong_read source source' kept taken;
   answered = λ other. absurd (other.1 refl);
   writes = nothing_written out 7;
@@ -143,10 +143,10 @@ out_of_memory words order source source' out means kept taken nothing = record {
 
 -- ---- runs with an outcome: what the order reads was read without a fault
 
-pub read_whole : (task : Task) (budgets : Budgets) (source source' : Device) (input bytes : List ℕ) → input ≡ bytes → IsWholeInput source.bytes source'.bytes bytes
-    → length bytes ≤ MAX_INPUT_BYTES → source'.faults ≡ source.faults → HasRead (Run task budgets) source source' input
-read_whole task budgets source source' input bytes same whole short kept =
-    subst (λ (t : List ℕ). HasRead (Run task budgets) source source' t) (sym same) record {
+pub read_whole : (task : Task) (k : ℕ) (budgets : Budgets) (source source' : Device) (input bytes : List ℕ) → input ≡ bytes → IsWholeInput source.bytes source'.bytes bytes
+    → length bytes ≤ MAX_INPUT_BYTES → source'.faults ≡ source.faults → HasRead (Run task k budgets) source source' input
+read_whole task k budgets source source' input bytes same whole short kept =
+    subst (λ (t : List ℕ). HasRead (Run task k budgets) source source' t) (sym same) record {
       reads = record { read = whole.taken; whole = whole.ended; short = short };
       taken = (bytes, whole.taken, short);
       kept = kept;
@@ -259,16 +259,16 @@ refused_so words source source' out out' (Err error) refusal same ran =
 -- ---- the text of an order
 
 -- the input wasn't read
-pub not_read : (task : Task) (budgets : Budgets) (source source' : Device) (fault : ReadAllFault) → (fault ≡ readings.ReadFault → Rose source.faults source'.faults)
+pub not_read : (task : Task) (k : ℕ) (budgets : Budgets) (source source' : Device) (fault : ReadAllFault) → (fault ≡ readings.ReadFault → Rose source.faults source'.faults)
     → (fault ≡ readings.TooLong → TakesExactly source.bytes source'.bytes (MAX_INPUT_BYTES + 1)) → (fault ≡ readings.TooLong → source'.faults ≡ source.faults)
     → (fault ≡ readings.NoMemory → TakesAtMost source.bytes source'.bytes MAX_INPUT_BYTES) → (fault ≡ readings.NoMemory → source'.faults ≡ source.faults)
-    → EndsBy (Run task budgets) source source' (reading_refusal fault)
-not_read task budgets source source' readings.NoMemory rose long long_kept short short_kept = λ words out means.
-    out_of_memory words (Run task budgets) source source' out means (short_kept refl) (short refl) (λ n also. no_sample words task budgets source source' 10 n means also)
-not_read task budgets source source' readings.ReadFault rose long long_kept short short_kept = λ words out means.
-    read_failed words task budgets source source' out means (rose refl)
-not_read task budgets source source' readings.TooLong rose long long_kept short short_kept = λ words out means.
-    input_too_long words task budgets source source' out means (long_kept refl) (long refl)
+    → EndsBy (Run task k budgets) source source' (reading_refusal fault)
+not_read task k budgets source source' readings.NoMemory rose long long_kept short short_kept = λ words out means.
+    out_of_memory words (Run task k budgets) source source' out means (short_kept refl) (short refl) (λ n also. no_sample words task k budgets source source' 10 n means also)
+not_read task k budgets source source' readings.ReadFault rose long long_kept short short_kept = λ words out means.
+    read_failed words task k budgets source source' out means (rose refl)
+not_read task k budgets source source' readings.TooLong rose long long_kept short short_kept = λ words out means.
+    input_too_long words task k budgets source source' out means (long_kept refl) (long refl)
 
 -- it was read, and the answer is a text or a refusal
 pub text_there : (order : Order) (source source' : Device) (input : List ℕ) (result : Result (List ℕ) Refusal) → HasRead order source source' input

@@ -24,7 +24,7 @@ use Rattle.struct_core.specs.declared.order.Order.TheVariants.{Run}
 use Rattle.struct_core.specs.Certificates.{CertBoundOutcome, certified, wide_check, no_bounds, CertVerdictOutcome, certified_verdict, no_verdict, accepted}
 use Rattle.struct_core.specs.Inputs.{front_of, rest_of, first_line, after_first_line}
 use Rattle.struct_core.specs.Laws.{MadeCertificatesAreAccepted}
-use Rattle.struct_core.specs.Outcome.{TaskOutcome, Profile, Outcome, no_document, broken, answer}
+use Rattle.struct_core.specs.Outcome.{TaskOutcome, Profile, Outcome, no_document, broken, no_net, answer}
 use Rattle.struct_core.proofs.CanonLine.{canon_first, canon_rest}
 use Rattle.struct_core.proofs.NarrowEntries.{narrow_vectors}
 use Rattle.struct_core.proofs.Outcomes.{limit_goes_on}
@@ -38,18 +38,19 @@ record IsMade (net : Net) (document : Document) (text : List ℕ) : Type 0 where
   pub text_is : text ≡ canon document ++ certificate_text certificate
 
 -- the parts of an outcome with a text
-record HasAnswer (task : Task) (budgets : Budgets) (input text : List ℕ) : Type 0 where
+record HasAnswer (task : Task) (k : ℕ) (budgets : Budgets) (input text : List ℕ) : Type 0 where
   pub document : Document
   pub net : NetLists
   pub profile : Profile (front_of task input) document
-  pub flat : Flat document net
+  pub flat : Flat document k net
   pub outcome : TaskOutcome task budgets document net (rest_of task input) 0 text
 
-answered : (task : Task) (budgets : Budgets) (input : List ℕ) (status : ℕ) (text : List ℕ) → Outcome (Run task budgets) input status text → status ≡ 0
-    → HasAnswer task budgets input text
-answered _ _ _ _ _ (no_document task budgets input fault first) zero_is = absurd (omega (arith, zero_is))
-answered _ _ _ _ _ (broken task budgets input document fault spelled first) zero_is = absurd (omega (arith, zero_is))
-answered _ _ _ _ _ (answer task budgets input document net status text profile flat outcome) zero_is = record {
+answered : (task : Task) (k : ℕ) (budgets : Budgets) (input : List ℕ) (status : ℕ) (text : List ℕ) → Outcome (Run task k budgets) input status text → status ≡ 0
+    → HasAnswer task k budgets input text
+answered _ _ _ _ _ _ (no_document task k budgets input fault first) zero_is = absurd (omega (arith, zero_is))
+answered _ _ _ _ _ _ (broken task k budgets input document fault spelled first) zero_is = absurd (omega (arith, zero_is))
+answered _ _ _ _ _ _ (no_net task k budgets input document profile lacks) zero_is = absurd (omega (arith, zero_is))
+answered _ _ _ _ _ _ (answer task k budgets input document net status text profile flat outcome) zero_is = record {
   document = document;
   net = net;
   profile = profile;
@@ -74,7 +75,7 @@ of_bounds net document ids columns budget _ _ limit (certified list bounds are f
 of_bounds net document ids columns budget _ _ limit (wide_check list bounds row column are wide) zero_is = absurd (omega (arith, zero_is))
 of_bounds net document ids columns budget _ _ limit (no_bounds status line other outcome) zero_is = absurd (other zero_is)
 
-module _ (others : Budgets) (document : Document) (net : NetLists) (bytes text : List ℕ) (profile : Profile bytes document) (flat : Flat document net)
+module _ (k : ℕ) (others : Budgets) (document : Document) (net : NetLists) (bytes text : List ℕ) (profile : Profile bytes document) (flat : Flat document k net)
     (made : IsMade (net_of net) document text) where
   abbrev valued : Valued document
   valued = profile.spelled.spells.valued
@@ -85,22 +86,22 @@ module _ (others : Budgets) (document : Document) (net : NetLists) (bytes text :
   rest_is : after_first_line text ≡ certificate_text made.certificate
   rest_is = ap after_first_line made.text_is ∙ canon_rest document (certificate_text made.certificate) valued
 
-  verified : (line : List ℕ) × Outcome (Run tasks.Verify others) text 0 line
+  verified : (line : List ℕ) × Outcome (Run tasks.Verify k others) text 0 line
   verified =
       let told = some_verified_text (net_of net) made.certificate in
       let spelled : Spells made.certificate (after_first_line text) = record { well_formed = made.well_formed; text = rest_is } in (
         told.0,
-        answer tasks.Verify others text document net 0 told.0
+        answer tasks.Verify k others text document net 0 told.0
             (record { spelled = subst (DocBytes document) (sym front_is) (canon_is document valued); rules = profile.rules }) flat
             (accepted made.certificate told.0 spelled made.holds told.1),
       )
 
 pub made_are_accepted : MadeCertificatesAreAccepted
-made_are_accepted budgets others input text (inl bounds) =
-    let has = answered tasks.CertBounds budgets input 0 text bounds refl in
-    verified others has.document has.net input text has.profile has.flat
-    (of_bounds (net_of has.net) has.document _ _ _ 0 text (few_places has.document has.net has.profile.spelled has.flat) has.outcome refl)
-made_are_accepted budgets others input text (inr verdict) =
-    let has = answered tasks.CertCommoner budgets input 0 text verdict refl in
-    verified others has.document has.net input text has.profile has.flat
+made_are_accepted k budgets others input text (inl bounds) =
+    let has = answered tasks.CertBounds k budgets input 0 text bounds refl in
+    verified k others has.document has.net input text has.profile has.flat
+    (of_bounds (net_of has.net) has.document _ _ _ 0 text (few_places has.document k has.net has.profile.spelled has.flat) has.outcome refl)
+made_are_accepted k budgets others input text (inr verdict) =
+    let has = answered tasks.CertCommoner k budgets input 0 text verdict refl in
+    verified k others has.document has.net input text has.profile has.flat
     (of_verdict (net_of has.net) has.document _ 0 text has.outcome refl)

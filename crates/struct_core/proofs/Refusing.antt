@@ -1,5 +1,5 @@
 -- A fault of a call is a refusal that its outcome tells.
-use Rattle.std.proofs.Common.{◌≡◌, ℕ, List, refl, subst, arith, inl, inr, IfOk}
+use Rattle.std.proofs.Common.{◌≡◌, ◌≤◌, ℕ, suc, List, length, refl, sym, subst, arith, inl, inr, IfOk}
 use Rattle.std.specs.Prelude.{Result, Ok, Err, IfErr}
 use Rattle.net_values.specs.declared.document.Document.{Document as Read}
 use Rattle.net_values.specs.FlatNets.{NetLists}
@@ -8,7 +8,8 @@ use Rattle.pnml_grammar.specs.FirstFault.{not_utf8, at, truncated}
 use Rattle.page_flatten.specs.declared.fault.FlatFault.{FlatFault}
 use Rattle.page_flatten.specs.declared.fault.FlatFault.TheVariants as rules
 use Rattle.page_flatten.specs.Rules.{IsAnswered, BreaksNoRule}
-use Rattle.page_flatten.specs.Flat.{Flat}
+use Rattle.page_flatten.specs.Flat.{Flat, LacksNet}
+use Rattle.page_flatten.proofs.Lists.{within}
 use Rattle.pnml_decode.specs.declared.fault.DocFault.{DocFault}
 use Rattle.pnml_decode.specs.declared.fault.DocFault.TheVariants as documents
 use Rattle.pnml_decode.specs.Faults.{NamesFirstFault}
@@ -18,42 +19,53 @@ use Rattle.struct_core.specs.declared.order.Order.TheVariants.{Run}
 use Rattle.report.specs.declared.refusal.Refusal.{Refusal}
 use Rattle.report.specs.declared.refusal.Refusal.TheVariants.{Document, Rule}
 use Rattle.struct_core.specs.Inputs.{front_of, rest_of}
-use Rattle.struct_core.specs.Outcome.{Outcome, TaskOutcome, no_document, broken, answer}
-use Rattle.struct_core.specs.Answers.{FailsWith}
+use Rattle.struct_core.specs.Outcome.{Outcome, TaskOutcome, no_document, broken, no_net, answer}
+use Rattle.struct_core.specs.Answers.{FailsWith, IsRefusedNet}
 use Rattle.struct_core.proofs.Listing.{fails_so}
 
-document_fails : (task : Task) (budgets : Budgets) (bytes : List ℕ) (fault : DocFault) → NamesFirstFault fault (front_of task bytes)
-    → FailsWith (Outcome (Run task budgets) bytes) (Document fault)
-document_fails task budgets bytes documents.NoMemory is = inl record { status = refl; line = refl }
-document_fails task budgets bytes (documents.NotUtf8 k) is =
-    inr record { low = omega arith; not_usage = λ is. omega (arith, is); high = omega arith; outcome = no_document task budgets bytes (not_utf8 k) is }
-document_fails task budgets bytes (documents.At k reason) is =
-    inr record { low = omega arith; not_usage = λ is. omega (arith, is); high = omega arith; outcome = no_document task budgets bytes (at k reason) is }
-document_fails task budgets bytes (documents.Truncated k) is =
-    inr record { low = omega arith; not_usage = λ is. omega (arith, is); high = omega arith; outcome = no_document task budgets bytes (truncated k) is }
+document_fails : (task : Task) (k : ℕ) (budgets : Budgets) (bytes : List ℕ) (fault : DocFault) → NamesFirstFault fault (front_of task bytes)
+    → FailsWith (Outcome (Run task k budgets) bytes) (Document fault)
+document_fails task k budgets bytes documents.NoMemory is = inl record { status = refl; line = refl }
+document_fails task k budgets bytes (documents.NotUtf8 offset) is =
+    inr record { low = omega arith; not_usage = λ is. omega (arith, is); high = omega arith; outcome = no_document task k budgets bytes (not_utf8 offset) is }
+document_fails task k budgets bytes (documents.At offset reason) is =
+    inr record { low = omega arith; not_usage = λ is. omega (arith, is); high = omega arith; outcome = no_document task k budgets bytes (at offset reason) is }
+document_fails task k budgets bytes (documents.Truncated length) is =
+    inr record { low = omega arith; not_usage = λ is. omega (arith, is); high = omega arith; outcome = no_document task k budgets bytes (truncated length) is }
 
-pub document_refused : (task : Task) (budgets : Budgets) (bytes front : List ℕ) (fault : DocFault) → front ≡ front_of task bytes
-    → NamesFirstFault fault front → FailsWith (Outcome (Run task budgets) bytes) (Document fault)
-document_refused task budgets bytes front fault same is = document_fails task budgets bytes fault (subst (NamesFirstFault fault) same is)
+pub document_refused : (task : Task) (k : ℕ) (budgets : Budgets) (bytes front : List ℕ) (fault : DocFault) → front ≡ front_of task bytes
+    → NamesFirstFault fault front → FailsWith (Outcome (Run task k budgets) bytes) (Document fault)
+document_refused task k budgets bytes front fault same is = document_fails task k budgets bytes fault (subst (NamesFirstFault fault) same is)
 
-rule_fails : (task : Task) (budgets : Budgets) (bytes : List ℕ) (document : Read) (fault : FlatFault)
-    → DocBytes document (front_of task bytes) → IsAnswered document.net fault → FailsWith (Outcome (Run task budgets) bytes) (Rule fault)
-rule_fails task budgets bytes document rules.NoMemory spelled is = inl record { status = refl; line = refl }
-rule_fails task budgets bytes document (rules.DuplicateId id) spelled is =
-    inr record { low = omega arith; not_usage = λ is. omega (arith, is); high = omega arith; outcome = broken task budgets bytes document (rules.DuplicateId id) spelled is }
-rule_fails task budgets bytes document (rules.UnknownId id by) spelled is =
-    inr record { low = omega arith; not_usage = λ is. omega (arith, is); high = omega arith; outcome = broken task budgets bytes document (rules.UnknownId id by) spelled is }
-rule_fails task budgets bytes document (rules.RefKind id) spelled is =
-    inr record { low = omega arith; not_usage = λ is. omega (arith, is); high = omega arith; outcome = broken task budgets bytes document (rules.RefKind id) spelled is }
-rule_fails task budgets bytes document (rules.RefCycle id) spelled is =
-    inr record { low = omega arith; not_usage = λ is. omega (arith, is); high = omega arith; outcome = broken task budgets bytes document (rules.RefCycle id) spelled is }
-rule_fails task budgets bytes document (rules.ArcEnds id) spelled is =
-    inr record { low = omega arith; not_usage = λ is. omega (arith, is); high = omega arith; outcome = broken task budgets bytes document (rules.ArcEnds id) spelled is }
+-- a document that ends before net k lacks it
+lacks : (document : Read) (k n : ℕ) → k ≡ suc n → length document.nets ≤ n → LacksNet document k
+lacks document k n same few = subst (LacksNet document) (sym same) (λ tree at. omega (arith, within document.nets n tree at, few))
 
-pub rules_broken : (task : Task) (budgets : Budgets) (bytes front : List ℕ) (document : Read) (fault : FlatFault) → front ≡ front_of task bytes
-    → DocBytes document front → IsAnswered document.net fault → FailsWith (Outcome (Run task budgets) bytes) (Rule fault)
-rules_broken task budgets bytes front document fault same spelled is =
-    rule_fails task budgets bytes document fault (subst (DocBytes document) same spelled) is
+rule_fails : (task : Task) (k : ℕ) (budgets : Budgets) (bytes : List ℕ) (document : Read) (fault : FlatFault) (n : ℕ)
+    → DocBytes document (front_of task bytes) → k ≡ suc n → IsAnswered document n fault → FailsWith (Outcome (Run task k budgets) bytes) (Rule k fault)
+rule_fails task k budgets bytes document rules.NoMemory n spelled same is = inl record { status = refl; line = refl }
+rule_fails task k budgets bytes document (rules.DuplicateId id) n spelled same is =
+    inr record { low = omega arith; not_usage = λ is. omega (arith, is); high = omega arith; outcome = broken task k budgets bytes document (rules.DuplicateId id) spelled is }
+rule_fails task k budgets bytes document (rules.UnknownId id by) n spelled same is =
+    inr record { low = omega arith; not_usage = λ is. omega (arith, is); high = omega arith; outcome = broken task k budgets bytes document (rules.UnknownId id by) spelled is }
+rule_fails task k budgets bytes document (rules.RefKind id) n spelled same is =
+    inr record { low = omega arith; not_usage = λ is. omega (arith, is); high = omega arith; outcome = broken task k budgets bytes document (rules.RefKind id) spelled is }
+rule_fails task k budgets bytes document (rules.RefCycle id) n spelled same is =
+    inr record { low = omega arith; not_usage = λ is. omega (arith, is); high = omega arith; outcome = broken task k budgets bytes document (rules.RefCycle id) spelled is }
+rule_fails task k budgets bytes document (rules.ArcEnds id) n spelled same is =
+    inr record { low = omega arith; not_usage = λ is. omega (arith, is); high = omega arith; outcome = broken task k budgets bytes document (rules.ArcEnds id) spelled is }
+rule_fails task k budgets bytes document (rules.NoNet count) n spelled same is = inr record {
+  low = omega arith;
+  not_usage = λ is. omega (arith, is);
+  high = omega arith;
+  outcome = no_net task k budgets bytes document (record { spelled = spelled; rules = is.0 }) (lacks document k n same is.2);
+}
+
+pub rules_broken : (task : Task) (k : ℕ) (budgets : Budgets) (bytes front : List ℕ) (document : Read) (refusal : Refusal) → front ≡ front_of task bytes
+    → DocBytes document front → IsRefusedNet document k refusal → FailsWith (Outcome (Run task k budgets) bytes) refusal
+rules_broken task k budgets bytes front document refusal same spelled is =
+    subst (FailsWith (Outcome (Run task k budgets) bytes)) (sym is.1)
+    (rule_fails task k budgets bytes document is.0 is.2 (subst (DocBytes document) same spelled) is.3 is.4)
 
 -- what holds of a value, or of a fault, gives what follows from it
 if_ok : {T E : Type 0} {P Q : T → Type 0} (result : Result T E) → ((value : T) → P value → Q value) → IfOk result P → IfOk result Q
@@ -65,16 +77,16 @@ if_err (Ok value) so is = tt
 if_err (Err fault) so is = so fault is
 
 -- a text of the task is the outcome, and so is a refusal of the task
-module _ (task : Task) (budgets : Budgets) (bytes front rest : List ℕ) (document : Read) (net : NetLists) (result : Result (List ℕ) Refusal)
+module _ (task : Task) (k : ℕ) (budgets : Budgets) (bytes front rest : List ℕ) (document : Read) (net : NetLists) (result : Result (List ℕ) Refusal)
     (front_is : front ≡ front_of task bytes) (rest_is : rest ≡ rest_of task bytes) (spelled : DocBytes document front)
-    (flat : BreaksNoRule document × Flat document net) where
-  answers : (status : ℕ) (text : List ℕ) → TaskOutcome task budgets document net rest status text → Outcome (Run task budgets) bytes status text
+    (flat : BreaksNoRule document × Flat document k net) where
+  answers : (status : ℕ) (text : List ℕ) → TaskOutcome task budgets document net rest status text → Outcome (Run task k budgets) bytes status text
   answers status text is =
-      answer task budgets bytes document net status text (record { spelled = subst (DocBytes document) front_is spelled; rules = flat.0 }) flat.1
+      answer task k budgets bytes document net status text (record { spelled = subst (DocBytes document) front_is spelled; rules = flat.0 }) flat.1
       (subst (λ (r : List ℕ). TaskOutcome task budgets document net r status text) rest_is is)
 
-  pub task_answered : IfOk result (TaskOutcome task budgets document net rest 0) → IfOk result (Outcome (Run task budgets) bytes 0)
+  pub task_answered : IfOk result (TaskOutcome task budgets document net rest 0) → IfOk result (Outcome (Run task k budgets) bytes 0)
   task_answered = if_ok result (λ text is. answers 0 text is)
 
-  pub task_failed : IfErr result (FailsWith (TaskOutcome task budgets document net rest)) → IfErr result (FailsWith (Outcome (Run task budgets) bytes))
+  pub task_failed : IfErr result (FailsWith (TaskOutcome task budgets document net rest)) → IfErr result (FailsWith (Outcome (Run task k budgets) bytes))
   task_failed = if_err result (λ refusal. fails_so _ _ refusal answers)

@@ -5,6 +5,7 @@ use Rattle.std.proofs.lemmas.Grind.{flat_map-append}
 use Rattle.std.proofs.lemmas.List.FromFn.{map-range_with_len_more}
 use Rattle.std.specs.Prelude.{codes, None}
 use Rattle.net_values.specs.declared.document.Document.{Document}
+use Rattle.net_values.specs.declared.document.NetTree.{NetTree}
 use Rattle.net_values.specs.declared.document.Item.{Item}
 use Rattle.net_values.specs.declared.document.Item.TheVariants.{Page}
 use Rattle.struct_core.specs.Sample.{arc}
@@ -56,13 +57,17 @@ all_items none page thinks forks eats acts arcs all one two three four five firs
     e7 ∙ ap (λ t. t ++ last ∷ []) (e6 ∙ ap (λ t. t ++ five) (e5 ∙ ap (λ t. t ++ four) (e4 ∙ ap (λ t. t ++ three) (e3 ∙ ap (λ t. t ++ two) (e2 ∙ ap (λ t. t ++ one) page_is))))) in
     whole ∙ simp append_assoc
 
-abbrev document : List ℕ → List Item → Document
-document id items = record { net = record { id = id; name = None; items = items } }
+abbrev tree : List ℕ → List Item → NetTree
+tree id items = record { id = id; name = None; items = items }
+
+abbrev document : List NetTree → Document
+document nets = record { nets = nets }
 
 abbrev on_page : List ℕ → List Item → List Item
 on_page id rest = Page record { id = id; name = None } ∷ rest
 
-pub document_is : (id page : List ℕ) (items rest : List Item) → id ≡ codes "sample" → page ≡ codes "page" → items ≡ on_page page rest
-    → document id items ≡ document (codes "sample") (on_page (codes "page") rest)
-document_is id page items rest id_is page_is items_are =
-    ap (λ (x : List ℕ). document x items) id_is ∙ ap (λ (xs : List Item). document (codes "sample") xs) (items_are ∙ ap (λ (x : List ℕ). on_page x rest) page_is)
+pub document_is : (none nets : List NetTree) (id page : List ℕ) (items rest : List Item) → none ≡ [] → nets ≡ none ++ tree id items ∷ [] → id ≡ codes "sample" → page ≡ codes "page"
+    → items ≡ on_page page rest → document nets ≡ document (tree (codes "sample") (on_page (codes "page") rest) ∷ [])
+document_is none nets id page items rest none_is nets_are id_is page_is items_are =
+    ap document (nets_are ∙ ap (λ (l : List NetTree). l ++ tree id items ∷ []) none_is
+    ∙ ap (λ (x : List ℕ). tree x items ∷ []) id_is ∙ ap (λ (xs : List Item). tree (codes "sample") xs ∷ []) (items_are ∙ ap (λ (x : List ℕ). on_page x rest) page_is))

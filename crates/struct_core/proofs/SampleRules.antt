@@ -1,6 +1,6 @@
 -- The document of the sample net breaks no rule: the number of an element is read back from its id, so that ids
 -- are distinct, and each arc leads from a place to a transition or back.
-use Rattle.std.proofs.Common.{◌≡◌, ℕ, zero, suc, ◌+◌, ◌-◌, ◌*◌, ◌/◌, ◌%◌, ◌<◌, ◌^◌, List, [], ◌∷◌, ◌++◌, Some, None, map, drop, get_or, refl, sym, ap, ◌∙◌, arith, inl, inr}
+use Rattle.std.proofs.Common.{◌≡◌, ℕ, zero, suc, ◌+◌, ◌-◌, ◌*◌, ◌/◌, ◌%◌, ◌<◌, ◌^◌, List, [], ◌∷◌, ◌++◌, Some, None, map, drop, get_or, refl, sym, ap, subst, append-nil, ◌∙◌, arith, inl, inr}
 use Rattle.std.specs.Prelude.{slice_get, codes, decimal, if◌then◌else◌, ◌==◌}
 use Rattle.std.specs.List.{flat_map, range_with_len, AllByRecursion}
 use Rattle.std.specs.Str.Parse.{digits_value}
@@ -14,15 +14,15 @@ use Rattle.net_values.specs.declared.node_kind.NodeKind.TheVariants as kinds
 use Rattle.page_flatten.specs.declared.links.End.TheVariants.{AtPlace, AtTransition}
 use Rattle.page_flatten.specs.Elements.{Element, Role, NoNode, Real, elements, elements_from, entries, entry_of, mentions, references, arcs}
 use Rattle.page_flatten.specs.Chains.{Resolves, to_itself}
-use Rattle.page_flatten.specs.Rules.{NamesNode, IsKnown, NamesItsKind, ItsChainEnds, JoinsPlaceAndTransition, HasDistinctIds, BreaksNoRule}
+use Rattle.page_flatten.specs.Rules.{NamesNode, IsKnown, NamesItsKind, ItsChainEnds, JoinsPlaceAndTransition, AreDistinct, ids_of, HasDistinctIds, BreaksNoRule}
 use Rattle.page_flatten.proofs.Lists.{some_is, get_map, from_map}
-use Rattle.struct_core.specs.Sample.{numbered, place, transitions_of, arcs_of, sample_items, sample_document}
+use Rattle.struct_core.specs.Sample.{numbered, place, transitions_of, arcs_of, sample_items, sample_tree, sample_document}
 use Rattle.struct_core.proofs.SampleLists.{element, place_found, places_passed, take_found, release_found, transitions_passed, arc_found, arcs_passed}
 use Rattle.struct_core.proofs.SampleItems.{Nodes, every_item, all_over}
 
 module _ (n : ℕ) where
   abbrev net : NetTree
-  net = (sample_document n).net
+  net = sample_tree n
 
   -- ---- what occurs at which number
 
@@ -205,21 +205,33 @@ module _ (n : ℕ) where
 
     pub breaks_no_rule : BreaksNoRule (sample_document n)
     breaks_no_rule = record {
-      ids = distinct;
-      mentions = all_over (IsKnown (entries net)) mentions (sample_items n)
-          (every_item n (λ item. AllByRecursion (IsKnown (entries net)) (mentions item)) IsPlaceId IsTransitionId nodes
-          (λ k source target below p t. ((kinds.Place, known_place source p), ((kinds.Transition, known_transition target t), tt)))
-          (λ k source target below t p. ((kinds.Transition, known_transition source t), ((kinds.Place, known_place target p), tt)))
-          tt tt (λ i below. (tt, tt, tt)) (λ i below. (tt, tt)));
-      kinds = all_over (NamesItsKind (entries net)) references (sample_items n)
-          (every_item n (λ item. AllByRecursion (NamesItsKind (entries net)) (references item)) IsPlaceId IsTransitionId nodes
-          (λ k source target below p t. tt) (λ k source target below t p. tt) tt tt (λ i below. (tt, tt, tt)) (λ i below. (tt, tt)));
-      chains = all_over (ItsChainEnds net) references (sample_items n)
-          (every_item n (λ item. AllByRecursion (ItsChainEnds net) (references item)) IsPlaceId IsTransitionId nodes
-          (λ k source target below p t. tt) (λ k source target below t p. tt) tt tt (λ i below. (tt, tt, tt)) (λ i below. (tt, tt)));
-      arcs = all_over (JoinsPlaceAndTransition net) arcs (sample_items n)
-          (every_item n (λ item. AllByRecursion (JoinsPlaceAndTransition net) (arcs item)) IsPlaceId IsTransitionId nodes
-          (λ k source target below p t. (record { source = AtPlace p.1; target = AtTransition t.1; source_resolves = to_place source p; target_resolves = to_transition target t; apart = tt }, tt))
-          (λ k source target below t p. (record { source = AtTransition t.1; target = AtPlace p.1; source_resolves = to_transition source t; target_resolves = to_place target p; apart = tt }, tt))
-          tt tt (λ i below. (tt, tt, tt)) (λ i below. (tt, tt)));
+      ids = subst AreDistinct (sym (append-nil (ids_of net))) distinct;
+      mentions = (
+        all_over (IsKnown (entries net)) mentions (sample_items n)
+            (every_item n (λ item. AllByRecursion (IsKnown (entries net)) (mentions item)) IsPlaceId IsTransitionId nodes
+            (λ k source target below p t. ((kinds.Place, known_place source p), ((kinds.Transition, known_transition target t), tt)))
+            (λ k source target below t p. ((kinds.Transition, known_transition source t), ((kinds.Place, known_place target p), tt)))
+            tt tt (λ i below. (tt, tt, tt)) (λ i below. (tt, tt))),
+        tt,
+      );
+      kinds = (
+        all_over (NamesItsKind (entries net)) references (sample_items n)
+            (every_item n (λ item. AllByRecursion (NamesItsKind (entries net)) (references item)) IsPlaceId IsTransitionId nodes
+            (λ k source target below p t. tt) (λ k source target below t p. tt) tt tt (λ i below. (tt, tt, tt)) (λ i below. (tt, tt))),
+        tt,
+      );
+      chains = (
+        all_over (ItsChainEnds net) references (sample_items n)
+            (every_item n (λ item. AllByRecursion (ItsChainEnds net) (references item)) IsPlaceId IsTransitionId nodes
+            (λ k source target below p t. tt) (λ k source target below t p. tt) tt tt (λ i below. (tt, tt, tt)) (λ i below. (tt, tt))),
+        tt,
+      );
+      arcs = (
+        all_over (JoinsPlaceAndTransition net) arcs (sample_items n)
+            (every_item n (λ item. AllByRecursion (JoinsPlaceAndTransition net) (arcs item)) IsPlaceId IsTransitionId nodes
+            (λ k source target below p t. (record { source = AtPlace p.1; target = AtTransition t.1; source_resolves = to_place source p; target_resolves = to_transition target t; apart = tt }, tt))
+            (λ k source target below t p. (record { source = AtTransition t.1; target = AtPlace p.1; source_resolves = to_transition source t; target_resolves = to_place target p; apart = tt }, tt))
+            tt tt (λ i below. (tt, tt, tt)) (λ i below. (tt, tt))),
+        tt,
+      );
     }

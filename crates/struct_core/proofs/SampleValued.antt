@@ -1,6 +1,6 @@
 -- The document of the sample net is valued: its ids are words and numbers in ASCII, its one page ends, and its
 -- counts are small.
-use Rattle.std.proofs.Common.{◌≡◌, ℕ, zero, suc, ◌+◌, ◌*◌, ◌%◌, ◌<◌, ◌≤◌, ◌^◌, List, [], ◌∷◌, ◌++◌, Bool, true, false, cond, None, map, length, refl, sym, ap, subst, ◌∙◌, arith, inl, inr, append_assoc, length-append}
+use Rattle.std.proofs.Common.{◌≡◌, ℕ, zero, suc, ◌+◌, ◌*◌, ◌%◌, ◌<◌, ◌≤◌, ◌^◌, List, [], ◌∷◌, ◌++◌, Bool, true, false, cond, None, map, length, refl, sym, ap, subst, append-nil, ◌∙◌, arith, inl, inr, append_assoc, length-append}
 use Rattle.std.specs.Prelude.{codes, decimal, count_by, nat_lt, ◌&&◌}
 use Rattle.std.specs.List.{flat_map, range_with_len, AllByRecursion, list_all}
 use Rattle.std.specs.Str.{encode_utf8_all}
@@ -16,9 +16,9 @@ use Rattle.net_values.specs.declared.document.Item.TheVariants.{Page, PageEnd}
 use Rattle.net_values.specs.Characters.{IsIdCharacter, IsId}
 use Rattle.net_values.specs.Items.{is_page, is_place, is_transition, is_arc, is_reference}
 use Rattle.pnml_grammar.specs.Canon.{canon}
-use Rattle.pnml_grammar.specs.Valued.{HasValuesInRange, PagesMatch, IsShallow, IsWithinLimits, Valued}
+use Rattle.pnml_grammar.specs.Valued.{HasValuesInRange, PagesMatch, IsShallow, IsWithinLimits, IsValuedNet, Valued}
 use Rattle.pnml_grammar.proofs.CanonLaws.{canon_is}
-use Rattle.struct_core.specs.Sample.{numbered, place, transitions_of, arcs_of, sample_items, sample_document}
+use Rattle.struct_core.specs.Sample.{numbered, place, transitions_of, arcs_of, sample_items, sample_tree, sample_document}
 use Rattle.struct_core.specs.Outcome.{Profile}
 use Rattle.struct_core.specs.Laws.{SamplesAreInTheProfile}
 use Rattle.struct_core.proofs.SampleItems.{Nodes, every_item}
@@ -252,8 +252,8 @@ ids n small = record {
   release = λ i below. numbered_id (codes "release") i refl (omega arith) (omega (arith, small, below));
 }
 
-pub sample_valued : (n : ℕ) → n ≤ 200 → Valued (sample_document n)
-sample_valued n small = record {
+tree_valued : (n : ℕ) → n ≤ 200 → IsValuedNet (sample_tree n)
+tree_valued n small = record {
   id = word_id (codes "sample") refl (omega arith) (omega arith);
   name = tt;
   items = every_item n HasValuesInRange IsId IsId (ids n small)
@@ -264,7 +264,14 @@ sample_valued n small = record {
       (λ i below. (((ids n small).take i below, tt), ((ids n small).release i below, tt)));
   pages = pages_match n;
   shallow = is_shallow n;
-  limits = within_limits n small;
+}
+
+pub sample_valued : (n : ℕ) → n ≤ 200 → Valued (sample_document n)
+sample_valued n small = record {
+  some = omega arith;
+  few = omega arith;
+  nets = (tree_valued n small, tt);
+  limits = subst IsWithinLimits (sym (append-nil (sample_items n))) (within_limits n small);
 }
 
 pub sample_profile : (n : ℕ) → n ≤ 200 → Profile (canon (sample_document n)) (sample_document n)

@@ -1,13 +1,14 @@
 -- Every net has an outcome of `cert-bounds` and `cert-commoner`, and every net and bytes of `verify`: the semiflows that
 -- give bounds have a first wide sum or none, a net that meets Commoner's condition has a tree, and one that doesn't a
 -- siphon; bytes spell a certificate or have a bad line, and a certificate is accepted or has a false one.
-use Rattle.std.proofs.Common.{◌⊎◌, ℕ, ◌≤◌, List, ◌++◌, length, refl, sym, ap, subst, ◌∙◌, arith, inl, inr}
+use Rattle.std.proofs.Common.{◌⊎◌, ℕ, zero, suc, count_by, ◌≤◌, List, ◌++◌, length, refl, sym, ap, subst, ◌∙◌, arith, inl, inr}
 use Rattle.std.specs.Prelude.{Bool, codes}
 use Rattle.net_values.specs.declared.document.Document.{Document}
 use Rattle.net_values.specs.declared.flat_net.FlatPlace.{FlatPlace}
 use Rattle.net_values.specs.declared.limits.TheConstants.{MAX_PLACES}
 use Rattle.net_values.specs.FlatNets.{NetLists, net_of}
 use Rattle.net_values.specs.Net.{Net}
+use Rattle.net_values.specs.Items.{is_place}
 use Rattle.net_values.specs.PlaceSets.{has}
 use Rattle.bounds.specs.Listed.{AreNarrowRows, IsFirstWideRow}
 use Rattle.bounds.proofs.Sums.{Generate}
@@ -22,7 +23,12 @@ use Rattle.incidence.specs.Matrix.{incidence_of}
 use Rattle.net_class.specs.declared.verdict.Verdict.{Verdict}
 use Rattle.net_class.specs.declared.verdict.Verdict.TheVariants.{Yes, No}
 use Rattle.pnml_grammar.specs.Documents.{DocBytes}
-use Rattle.page_flatten.specs.Flat.{Flat}
+use Rattle.page_flatten.specs.Flat.{Flat, IsNet}
+use Rattle.page_flatten.specs.Passes.{FitsLimits}
+use Rattle.page_flatten.proofs.NetLists.{each_at}
+use Rattle.page_flatten.proofs.NetChoice.{fits_limits}
+use Rattle.pnml_grammar.specs.Valued.{Valued}
+use Rattle.net_values.specs.declared.document.NetTree.{NetTree}
 use Rattle.page_flatten.proofs.Decisions.{Decided}
 use Rattle.page_flatten.proofs.NodeLaws.{places_counted}
 use Rattle.siphon_branch.specs.Limits.{AtMostOrMore, IsGrownSet}
@@ -144,8 +150,12 @@ module _ (net : Net) (bytes : List ℕ) where
 
 -- ---- the limit of places
 
-pub few_places : (document : Document) (net : NetLists) {bytes : List ℕ} → DocBytes document bytes → Flat document net → (net_of net).places ≤ MAX_PLACES
-few_places document net spelled flat =
-    let few = spelled.spells.valued.limits.places in
-    let count = places_counted document.net.items in
-    subst (λ (n : ℕ). n ≤ MAX_PLACES) (sym (ap (λ (places : List FlatPlace). length places) flat.places ∙ count)) few
+few_of_net : (document : Document) (k : ℕ) (tree : NetTree) → Valued document → IsNet document k tree → count_by is_place tree.items ≤ MAX_PLACES
+few_of_net document zero tree valued chosen = absurd chosen
+few_of_net document (suc n) tree valued chosen = (each_at FitsLimits document.nets n tree chosen (fits_limits document valued)).places
+
+pub few_places : (document : Document) (k : ℕ) (net : NetLists) {bytes : List ℕ} → DocBytes document bytes → Flat document k net → (net_of net).places ≤ MAX_PLACES
+few_places document k net spelled flat =
+    let few = few_of_net document k flat.tree spelled.spells.valued flat.chosen in
+    let count = places_counted flat.tree.items in
+    subst (λ (n : ℕ). n ≤ MAX_PLACES) (sym (ap (λ (places : List FlatPlace). length places) flat.flat.places ∙ count)) few

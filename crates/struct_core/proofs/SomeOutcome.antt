@@ -3,6 +3,7 @@
 use Rattle.std.proofs.Common.{◌≡◌, ◌≤◌, ◌++◌, ◌⊎◌, ℕ, List, length, refl, inl, inr}
 use Rattle.std.specs.Prelude.{Bool}
 use Rattle.net_values.specs.declared.document.Document.{Document}
+use Rattle.net_values.specs.declared.document.NetTree.{NetTree}
 use Rattle.net_values.specs.Net.{Net}
 use Rattle.net_values.specs.FlatNets.{NetLists, net_of}
 use Rattle.incidence.specs.Matrix.{Matrix, incidence_of}
@@ -13,7 +14,7 @@ use Rattle.pnml_grammar.proofs.CanonLaws.{canon_is}
 use Rattle.pnml_grammar.proofs.SomeAnswer.{some_answer}
 use Rattle.page_flatten.specs.declared.fault.FlatFault.{FlatFault}
 use Rattle.page_flatten.specs.Rules.{FirstBroken, BreaksNoRule}
-use Rattle.page_flatten.specs.Flat.{Flat}
+use Rattle.page_flatten.specs.Flat.{Flat, IsNet, LacksNet}
 use Rattle.page_flatten.specs.Laws.{HasFlatNet}
 use Rattle.page_flatten.proofs.OneAnswer.{breaks_where_faulty}
 use Rattle.page_flatten.proofs.SomeAnswer.{net_or_fault}
@@ -22,9 +23,9 @@ use Rattle.struct_core.specs.declared.order.Task.{Task}
 use Rattle.struct_core.specs.declared.order.Task.TheVariants as tasks
 use Rattle.struct_core.specs.declared.order.Budgets.{Budgets}
 use Rattle.struct_core.specs.declared.order.Order.TheVariants.{Run}
-use Rattle.report.specs.FaultLines.{document_line, rule_line, limit_line, wide_bound_line}
+use Rattle.report.specs.FaultLines.{document_line, rule_line, no_net_line, limit_line, wide_bound_line}
 use Rattle.struct_core.specs.Enumerations.{AreListed, SemiflowOutcome, all_semiflows, step_fails, SetOutcome, all_sets, passes_limit, set_limit}
-use Rattle.struct_core.specs.Outcome.{TaskOutcome, Profile, Outcome, no_document, broken, answer}
+use Rattle.struct_core.specs.Outcome.{TaskOutcome, Profile, Outcome, no_document, broken, no_net, answer}
 use Rattle.struct_core.specs.Determined.{IsEliminationDecided, IsDecided, HasSomeTaskOutcome}
 use Rattle.struct_core.specs.Laws.{CanonStays}
 use Rattle.std.specs.Cmp.Lexicographic.{slice_cmp}
@@ -125,42 +126,52 @@ some_task_outcome tasks.Replay budgets document net rest limit decided = some_re
 
 -- ---- of an input
 
-module _ (task : Task) (budgets : Budgets) (input : List ℕ)
-    (decide : (document : Document) (net : NetLists) → Profile (front_of task input) document → Flat document net → IsDecided task budgets net) where
+module _ (task : Task) (k : ℕ) (budgets : Budgets) (input : List ℕ)
+    (decide : (document : Document) (net : NetLists) → Profile (front_of task input) document → Flat document k net → IsDecided task budgets net) where
   abbrev Answered : Type 0
-  Answered = (status : ℕ) × (text : List ℕ) × Outcome (Run task budgets) input status text
+  Answered = (status : ℕ) × (text : List ℕ) × Outcome (Run task k budgets) input status text
 
-  of_document : (document : Document) → DocBytes document (front_of task input) → HasFlatNet document ⊎ ((fault : FlatFault) × FirstBroken document fault) → Answered
-  of_document document spelled (inl flat) =
-      let profile : Profile (front_of task input) document = record { spelled = spelled; rules = flat.0 } in
-      let outcome = some_task_outcome task budgets document flat.1 (rest_of task input) (few_places document flat.1 spelled flat.2)
-      (decide document flat.1 profile flat.2) in
-      (outcome.0, outcome.1, answer task budgets input document flat.1 outcome.0 outcome.1 profile flat.2 outcome.2)
+  of_net : (document : Document) → DocBytes document (front_of task input) → BreaksNoRule document → ((net : NetLists) × Flat document k net) ⊎ LacksNet document k → Answered
+  of_net document spelled rules (inl flat) =
+      let profile : Profile (front_of task input) document = record { spelled = spelled; rules = rules } in
+      let outcome = some_task_outcome task budgets document flat.0 (rest_of task input) (few_places document k flat.0 spelled flat.1)
+      (decide document flat.0 profile flat.1) in
+      (outcome.0, outcome.1, answer task k budgets input document flat.0 outcome.0 outcome.1 profile flat.1 outcome.2)
+  of_net document spelled rules (inr lacks) =
+      (3, no_net_line k, no_net task k budgets input document (record { spelled = spelled; rules = rules }) lacks)
+
+  of_document : (document : Document) → DocBytes document (front_of task input) → HasFlatNet document k ⊎ ((fault : FlatFault) × FirstBroken document fault) → Answered
+  of_document document spelled (inl has) = of_net document spelled has.0 has.1
   of_document document spelled (inr broken_first) =
-      (3, rule_line broken_first.0, broken task budgets input document broken_first.0 spelled broken_first.1)
+      (3, rule_line k broken_first.0, broken task k budgets input document broken_first.0 spelled broken_first.1)
 
   of_input : ((document : Document) × DocBytes document (front_of task input)) ⊎ ((fault : Fault) × FirstFault (front_of task input) fault) → Answered
-  of_input (inl spelled) = of_document spelled.0 spelled.1 (net_or_fault spelled.0)
-  of_input (inr fault) = (3, document_line fault.0, no_document task budgets input fault.0 fault.1)
+  of_input (inl spelled) = of_document spelled.0 spelled.1 (net_or_fault spelled.0 k)
+  of_input (inr fault) = (3, document_line fault.0, no_document task k budgets input fault.0 fault.1)
 
 pub some_of_task : HasSomeTaskOutcome
-some_of_task task budgets input decide = of_input task budgets input decide (some_answer (front_of task input))
+some_of_task task k budgets input decide = of_input task k budgets input decide (some_answer (front_of task input))
 
 -- ---- canonical texts
 
-canon_answered : (budgets : Budgets) (document : Document) → DocBytes document (canon document) → BreaksNoRule document
-    → HasFlatNet document ⊎ ((fault : FlatFault) × FirstBroken document fault) → Outcome (Run tasks.Canon budgets) (canon document) 0 (canon document)
-canon_answered budgets document spelled rules (inl flat) =
-    answer tasks.Canon budgets (canon document) document flat.1 0 (canon document) (record { spelled = spelled; rules = rules }) flat.2 (refl, refl)
-canon_answered budgets document spelled rules (inr fault) = absurd (breaks_where_faulty document fault.0 fault.1 rules)
+canon_of_net : (k : ℕ) (budgets : Budgets) (document : Document) (tree : NetTree) → DocBytes document (canon document) → BreaksNoRule document → IsNet document k tree
+    → ((net : NetLists) × Flat document k net) ⊎ LacksNet document k → Outcome (Run tasks.Canon k budgets) (canon document) 0 (canon document)
+canon_of_net k budgets document tree spelled rules chosen (inl flat) =
+    answer tasks.Canon k budgets (canon document) document flat.0 0 (canon document) (record { spelled = spelled; rules = rules }) flat.1 (refl, refl)
+canon_of_net k budgets document tree spelled rules chosen (inr lacks) = absurd (lacks tree chosen)
+
+canon_answered : (k : ℕ) (budgets : Budgets) (document : Document) (tree : NetTree) → DocBytes document (canon document) → BreaksNoRule document → IsNet document k tree
+    → HasFlatNet document k ⊎ ((fault : FlatFault) × FirstBroken document fault) → Outcome (Run tasks.Canon k budgets) (canon document) 0 (canon document)
+canon_answered k budgets document tree spelled rules chosen (inl has) = canon_of_net k budgets document tree spelled rules chosen has.1
+canon_answered k budgets document tree spelled rules chosen (inr fault) = absurd (breaks_where_faulty document fault.0 fault.1 rules)
 
 -- for `canon` no text has a tree
-no_tree : {budgets : Budgets} {status other : ℕ} {text line : List ℕ} → (status ≡ other) × IsSameText (Run tasks.Canon budgets) text line
+no_tree : {k : ℕ} {budgets : Budgets} {status other : ℕ} {text line : List ℕ} → (status ≡ other) × IsSameText (Run tasks.Canon k budgets) text line
     → (status ≡ other) × (text ≡ line)
 no_tree (same, inl text) = (same, text)
-no_tree (same, inr tree) = (let is = tree.0.1 in absurd (cc))
+no_tree (same, inr tree) = (let is = tree.0.2 in absurd (cc))
 
 pub canon_stays : CanonStays
-canon_stays budgets document valued rules =
-    let is = canon_answered budgets document (canon_is document valued) rules (net_or_fault document) in
-    (is, λ status text other. no_tree (one_outcome (Run tasks.Canon budgets) (canon document) status 0 text (canon document) other is))
+canon_stays k budgets document tree valued rules chosen =
+    let is = canon_answered k budgets document tree (canon_is document valued) rules chosen (net_or_fault document k) in
+    (is, λ status text other. no_tree (one_outcome (Run tasks.Canon k budgets) (canon document) status 0 text (canon document) other is))

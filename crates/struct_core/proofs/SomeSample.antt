@@ -16,7 +16,7 @@ use Rattle.closed_sets.specs.MinimalSets.{IsMinimalSet}
 use Rattle.incidence.specs.Matrix.{Matrix, incidence_of, transposed}
 use Rattle.page_flatten.specs.declared.fault.FlatFault.{FlatFault}
 use Rattle.page_flatten.specs.Rules.{FirstBroken}
-use Rattle.page_flatten.specs.Flat.{Flat}
+use Rattle.page_flatten.specs.Flat.{Flat, LacksNet}
 use Rattle.page_flatten.specs.Laws.{HasFlatNet}
 use Rattle.page_flatten.proofs.OneAnswer.{breaks_where_faulty}
 use Rattle.page_flatten.proofs.SomeAnswer.{net_or_fault}
@@ -26,7 +26,7 @@ use Rattle.struct_core.specs.declared.order.Task.{Task}
 use Rattle.struct_core.specs.declared.order.Task.TheVariants as tasks
 use Rattle.struct_core.specs.declared.order.Order.TheVariants.{Sample}
 use Rattle.struct_core.specs.Words.{default_budgets, IsInRange}
-use Rattle.struct_core.specs.Sample.{sample_document}
+use Rattle.struct_core.specs.Sample.{sample_document, sample_tree}
 use Rattle.struct_core.specs.Enumerations.{AreListed, SemiflowOutcome, all_semiflows, step_fails, SetOutcome, all_sets, passes_limit}
 use Rattle.struct_core.specs.Verdicts.{BoundOutcome, all_bounds, wide_bound, no_semiflows}
 use Rattle.struct_core.specs.Summaries.{is_yes, IsSummary}
@@ -122,16 +122,22 @@ module _ (document : Document) (net : NetLists) (limit : (net_of net).places ≤
       let numbers = numbers_of (net_of net) net.arcs rows.0 others.0 sets.0 least.0 in
       (0, summary_text numbers, summary numbers (some_summary (net_of net) net.arcs rows.0 others.0 sets.0 least.0 rows.1 others.1 sets.1 least.1 least.2)))))))
 
+some_of_flat : (n : ℕ) (input : List ℕ) → IsInRange (Sample n)
+    → ((net : NetLists) → Flat (sample_document n) 1 net → AllByRecursion (λ task. IsDecided task default_budgets net) sample_tasks)
+    → ((net : NetLists) × Flat (sample_document n) 1 net) ⊎ LacksNet (sample_document n) 1 → (status : ℕ) × (text : List ℕ) × Outcome (Sample n) input status text
+some_of_flat n input range decide (inl flat) =
+    let outcome = some_sample (sample_document n) flat.0 (few_places (sample_document n) 1 flat.0 (sample_profile n range.1).spelled flat.1) (decide flat.0 flat.1) in
+    (outcome.0, outcome.1, sample n input flat.0 outcome.0 outcome.1 range flat.1 outcome.2)
+some_of_flat n input range decide (inr lacks) = absurd (lacks (sample_tree n) refl)
+
 some_of_net : (n : ℕ) (input : List ℕ) → IsInRange (Sample n)
-    → ((net : NetLists) → Flat (sample_document n) net → AllByRecursion (λ task. IsDecided task default_budgets net) sample_tasks)
-    → HasFlatNet (sample_document n) ⊎ ((fault : FlatFault) × FirstBroken (sample_document n) fault) → (status : ℕ) × (text : List ℕ) × Outcome (Sample n) input status text
-some_of_net n input range decide (inl flat) =
-    let outcome = some_sample (sample_document n) flat.1 (few_places (sample_document n) flat.1 (sample_profile n range.1).spelled flat.2) (decide flat.1 flat.2) in
-    (outcome.0, outcome.1, sample n input flat.1 outcome.0 outcome.1 range flat.2 outcome.2)
+    → ((net : NetLists) → Flat (sample_document n) 1 net → AllByRecursion (λ task. IsDecided task default_budgets net) sample_tasks)
+    → HasFlatNet (sample_document n) 1 ⊎ ((fault : FlatFault) × FirstBroken (sample_document n) fault) → (status : ℕ) × (text : List ℕ) × Outcome (Sample n) input status text
+some_of_net n input range decide (inl has) = some_of_flat n input range decide has.1
 some_of_net n input range decide (inr fault) = absurd (breaks_where_faulty (sample_document n) fault.0 fault.1 (sample_profile n range.1).rules)
 
 some_of_sample : HasSomeSampleOutcome
-some_of_sample n input range decide = some_of_net n input range decide (net_or_fault (sample_document n))
+some_of_sample n input range decide = some_of_net n input range decide (net_or_fault (sample_document n) 1)
 
 pub some_outcome : HasSomeOutcome
 some_outcome = (some_of_task, some_of_sample)

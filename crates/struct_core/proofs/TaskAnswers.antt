@@ -11,7 +11,7 @@ use Rattle.incidence.specs.Matrix.{incidence_of, transposed}
 use Rattle.pnml_grammar.proofs.DocumentLaws.{spells_one}
 use Rattle.pnml_grammar.proofs.OneFault.{one_answer}
 use Rattle.page_flatten.specs.Rules.{BreaksNoRule}
-use Rattle.page_flatten.specs.Flat.{Flat}
+use Rattle.page_flatten.specs.Flat.{Flat, IsNet}
 use Rattle.page_flatten.specs.Laws.{IsSameNet}
 use Rattle.page_flatten.proofs.OneAnswer.{breaks_where_faulty, one_flat}
 use Rattle.net_values.specs.Nodes.{place_id, transition_id}
@@ -27,7 +27,7 @@ use Rattle.struct_core.specs.FiringLists.{ReplayOutcome}
 use Rattle.struct_core.specs.SubSemiflows.{SubOutcome}
 use Rattle.struct_core.specs.Inputs.{front_of, rest_of}
 use Rattle.pnml_grammar.specs.Canon.{canon}
-use Rattle.struct_core.specs.Outcome.{HasClass, TaskOutcome, Profile, Outcome, no_document, broken, answer, sample, sample_tasks, SampleOutcome, refused, goes_on, summary}
+use Rattle.struct_core.specs.Outcome.{HasClass, TaskOutcome, Profile, Outcome, no_document, broken, no_net, answer, sample, sample_tasks, SampleOutcome, refused, goes_on, summary}
 use Rattle.struct_core.specs.Words.{default_budgets, IsInRange}
 use Rattle.struct_core.specs.Sample.{sample_document}
 use Rattle.struct_core.specs.Summaries.{IsSummary}
@@ -86,16 +86,18 @@ outcome_as tasks.Replay budgets document one other rest status text same is =
 -- ---- an order
 
 -- of a document in the profile the outcome is that of the task
-pub task_answers : (task : Task) (budgets : Budgets) (bytes : List ℕ) (document : Document) (net : NetLists) (status : ℕ) (text : List ℕ)
-    → Profile (front_of task bytes) document → Flat document net → Outcome (Run task budgets) bytes status text
+pub task_answers : (task : Task) (k : ℕ) (budgets : Budgets) (bytes : List ℕ) (document : Document) (net : NetLists) (status : ℕ) (text : List ℕ)
+    → Profile (front_of task bytes) document → Flat document k net → Outcome (Run task k budgets) bytes status text
     → TaskOutcome task budgets document net (rest_of task bytes) status text
-task_answers _ _ _ document net _ _ profile flat (no_document task budgets bytes fault first) =
+task_answers _ _ _ _ document net _ _ profile flat (no_document task k budgets bytes fault first) =
     absurd ((one_answer (front_of task bytes) fault first).1 document profile.spelled)
-task_answers _ _ _ document net _ _ profile flat (broken task budgets bytes other fault spelled first) =
+task_answers _ _ _ _ document net _ _ profile flat (broken task k budgets bytes other fault spelled first) =
     absurd (breaks_where_faulty other fault first (subst BreaksNoRule (spells_one (front_of task bytes) document other profile.spelled spelled) profile.rules))
-task_answers _ _ _ document net _ _ profile flat (answer task budgets bytes other lists status text kept is outcome) =
+task_answers _ _ _ _ document net _ _ profile flat (no_net task k budgets bytes other kept lacks) =
+    absurd (lacks flat.tree (subst (λ (d : Document). IsNet d k flat.tree) (spells_one (front_of task bytes) document other profile.spelled kept.spelled) flat.chosen))
+task_answers _ _ _ _ document net _ _ profile flat (answer task k budgets bytes other lists status text kept is outcome) =
     let same : other ≡ document = spells_one (front_of task bytes) other document kept.spelled profile.spelled in
-    outcome_as task budgets document lists net (rest_of task bytes) status text (one_flat document lists net profile.rules (subst (λ d. Flat d lists) same is) flat)
+    outcome_as task budgets document lists net (rest_of task bytes) status text (one_flat document k lists net profile.rules (subst (λ d. Flat d k lists) same is) flat)
     (subst (λ d. TaskOutcome task budgets d lists (rest_of task bytes) status text) same outcome)
 
 -- ---- a sample
@@ -110,8 +112,8 @@ sample_as document one other _ _ _ same (summary numbers is) =
     summary numbers (subst (λ (n : ℕ). IsSummary (net_of other) n numbers) same.count (subst (λ (net : Net). IsSummary net one.arcs numbers) (same_net one other same) is))
 
 -- of each flat net of the sample the outcome is the same
-pub sample_answers : (n : ℕ) (bytes : List ℕ) (net : NetLists) (status : ℕ) (text : List ℕ) → IsInRange (Sample n) → Flat (sample_document n) net
+pub sample_answers : (n : ℕ) (bytes : List ℕ) (net : NetLists) (status : ℕ) (text : List ℕ) → IsInRange (Sample n) → Flat (sample_document n) 1 net
     → Outcome (Sample n) bytes status text → SampleOutcome (sample_document n) net sample_tasks status text
 sample_answers _ _ net _ _ range flat (sample n bytes lists status text also is outcome) =
     sample_as (sample_document n) lists net sample_tasks status text
-    (one_flat (sample_document n) lists net (sample_profile n range.1).rules is flat) outcome
+    (one_flat (sample_document n) 1 lists net (sample_profile n range.1).rules is flat) outcome

@@ -1,6 +1,10 @@
 -- Why there is no text: out of memory, or by an outcome that the refusal tells; and how a run ends by that.
-use Rattle.std.specs.Prelude.{◌≡◌, ◌≢◌, ◌⊎◌, ℕ, ◌≤◌, List, [], Result, Ok, Err}
+use Rattle.std.specs.Prelude.{◌≡◌, ◌≢◌, ◌⊎◌, ℕ, suc, ◌≤◌, List, [], Result, Ok, Err}
+use Rattle.net_values.specs.declared.document.Document.{Document}
+use Rattle.page_flatten.specs.declared.fault.FlatFault.{FlatFault}
+use Rattle.page_flatten.specs.Rules.{IsAnswered}
 use Rattle.report.specs.declared.refusal.Refusal.{Refusal}
+use Rattle.report.specs.declared.refusal.Refusal.TheVariants.{Rule}
 use Rattle.report.specs.FaultLines.{memory_line}
 use Rattle.report.specs.Refusals.{status_of, line_of}
 
@@ -18,6 +22,10 @@ pub record IsTold (Tells : ℕ → List ℕ → Type 0) (refusal : Refusal) : Ty
 
 abbrev pub FailsWith : (ℕ → List ℕ → Type 0) → Refusal → Type 0
 FailsWith Tells refusal = IsMemory refusal ⊎ IsTold Tells refusal
+
+-- the fault of a document whose net k is asked for: out of memory, its first broken rule, or that it has no such net
+abbrev pub IsRefusedNet : Document → ℕ → Refusal → Type 0
+IsRefusedNet document k refusal = (fault : FlatFault) × (refusal ≡ Rule k fault) × (n : ℕ) × (k ≡ suc n) × IsAnswered document n fault
 
 -- the status after a run whose text was written, or not, and the line that tells it
 abbrev pub status_after : {T : Type 0} → Result T Refusal → ℕ

@@ -99,23 +99,23 @@ pub record WritesText (order : Order) (input : List ℕ) (out out' : Device) (st
   pub done : status ≡ 0
   pub written : Appends out.bytes out'.bytes text
 
--- where the words mean a task, no device fails and the source tells a short input, whose net is narrow and
+-- where the words mean a task, no device fails and the source tells a short input, whose net k is narrow and
 -- has few sets, and what follows the document is as the task asks, the defined text is written, or memory was
 -- refused
 abbrev pub QuietTasksComplete : Type 0
 QuietTasksComplete =
-    (words : List (List ℕ)) (task : Task) (budgets : Budgets) (source source' out out' err err' : Device) (status : ℕ)
+    (words : List (List ℕ)) (task : Task) (k : ℕ) (budgets : Budgets) (source source' out out' err err' : Device) (status : ℕ)
     (input : List ℕ) (document : Document) (net : NetLists)
-    → HasRun words source source' out out' err err' status → Means words (Run task budgets)
+    → HasRun words source source' out out' err err' status → Means words (Run task k budgets)
     → IsQuiet source source' → IsQuiet out out' → source.bytes ≡ Some input → IsShort task input document
-    → Flat document net → IsNarrow task budgets net → IsFew task budgets net → IsFollowed task net (rest_of task input)
-    → WritesText (Run task budgets) input out out' status ⊎ (status ≡ 10)
+    → Flat document k net → IsNarrow task budgets net → IsFew task budgets net → IsFollowed task net (rest_of task input)
+    → WritesText (Run task k budgets) input out out' status ⊎ (status ≡ 10)
 
 -- `sample` needs neither a quiet source nor a short input, but that its net is narrow and has few sets
 abbrev pub QuietSamplesComplete : Type 0
 QuietSamplesComplete =
     (words : List (List ℕ)) (n : ℕ) (source source' out out' err err' : Device) (status : ℕ) (input : List ℕ) (net : NetLists)
-    → HasRun words source source' out out' err err' status → Means words (Sample n) → IsQuiet out out' → Flat (sample_document n) net
+    → HasRun words source source' out out' err err' status → Means words (Sample n) → IsQuiet out out' → Flat (sample_document n) 1 net
     → AllByRecursion (λ task. IsNarrow task default_budgets net × IsFew task default_budgets net) sample_tasks
     → WritesText (Sample n) input out out' status ⊎ (status ≡ 10)
 

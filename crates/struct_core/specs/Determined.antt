@@ -34,7 +34,7 @@ pub record DifferInTree (text line : List ℕ) : Type 0 where
 
 -- the order is for the certificate of Commoner's verdict
 abbrev pub AsksForATree : Order → Type 0
-AsksForATree order = (budgets : Budgets) × (order ≡ Run tasks.CertCommoner budgets)
+AsksForATree order = (k : ℕ) × (budgets : Budgets) × (order ≡ Run tasks.CertCommoner k budgets)
 
 -- the same text, or for that certificate another tree
 abbrev pub IsSameText : Order → List ℕ → List ℕ → Type 0
@@ -64,15 +64,15 @@ IsDecided _ budgets net = Unit
 -- of a task every input has an outcome, where the elimination of its net is decided
 abbrev pub HasSomeTaskOutcome : Type 0
 HasSomeTaskOutcome =
-    (task : Task) (budgets : Budgets) (input : List ℕ)
-    → ((document : Document) (net : NetLists) → Profile (front_of task input) document → Flat document net → IsDecided task budgets net)
-    → (status : ℕ) × (text : List ℕ) × Outcome (Run task budgets) input status text
+    (task : Task) (k : ℕ) (budgets : Budgets) (input : List ℕ)
+    → ((document : Document) (net : NetLists) → Profile (front_of task input) document → Flat document k net → IsDecided task budgets net)
+    → (status : ℕ) × (text : List ℕ) × Outcome (Run task k budgets) input status text
 
 -- and each sample has one, where those of its net are
 abbrev pub HasSomeSampleOutcome : Type 0
 HasSomeSampleOutcome =
     (n : ℕ) (input : List ℕ) → IsInRange (Sample n)
-    → ((net : NetLists) → Flat (sample_document n) net → AllByRecursion (λ task. IsDecided task default_budgets net) sample_tasks)
+    → ((net : NetLists) → Flat (sample_document n) 1 net → AllByRecursion (λ task. IsDecided task default_budgets net) sample_tasks)
     → (status : ℕ) × (text : List ℕ) × Outcome (Sample n) input status text
 
 abbrev pub HasSomeOutcome : Type 0

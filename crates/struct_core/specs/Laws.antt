@@ -1,6 +1,7 @@
 -- What the outcomes of runs tell.
 use Rattle.std.specs.Prelude.{◌≡◌, ◌⊎◌, ℕ, List, Bool, Option, All, length, slice_index, codes, ◌≤◌}
 use Rattle.net_values.specs.declared.document.Document.{Document}
+use Rattle.net_values.specs.declared.document.NetTree.{NetTree}
 use Rattle.net_values.specs.FlatNets.{NetLists, net_of}
 use Rattle.net_values.specs.PlaceSets.{has}
 use Rattle.closed_sets.specs.ClosedSets.{IsSiphon, IsTrap}
@@ -9,6 +10,7 @@ use Rattle.incidence.specs.Semiflow.{all_columns, IsSemiflow}
 use Rattle.pnml_grammar.specs.Canon.{canon}
 use Rattle.pnml_grammar.specs.Valued.{Valued}
 use Rattle.page_flatten.specs.Rules.{BreaksNoRule}
+use Rattle.page_flatten.specs.Flat.{IsNet}
 use Rattle.net_values.specs.Nodes.{place_id, transition_id}
 use Rattle.certificates.specs.declared.certificate.Certificate.{Certificate}
 use Rattle.certificates.specs.BadLines.{Spells}
@@ -94,19 +96,20 @@ AcceptedCertificatesAreTrue =
     (budgets : Budgets) (document : Document) (net : NetLists) (rest text : List ℕ) → TaskOutcome tasks.Verify budgets document net rest 0 text
     → IsTrueCertificate (net_of net) rest text
 
--- what `cert-bounds` and `cert-commoner` write `verify` accepts
+-- what `cert-bounds` and `cert-commoner` write of a net `verify` accepts of it
 abbrev pub MadeCertificatesAreAccepted : Type 0
 MadeCertificatesAreAccepted =
-    (budgets others : Budgets) (input text : List ℕ)
-    → Outcome (Run tasks.CertBounds budgets) input 0 text ⊎ Outcome (Run tasks.CertCommoner budgets) input 0 text
-    → (line : List ℕ) × Outcome (Run tasks.Verify others) text 0 line
+    (k : ℕ) (budgets others : Budgets) (input text : List ℕ)
+    → Outcome (Run tasks.CertBounds k budgets) input 0 text ⊎ Outcome (Run tasks.CertCommoner k budgets) input 0 text
+    → (line : List ℕ) × Outcome (Run tasks.Verify k others) text 0 line
 
--- `canon` of the canonical text of a valued document that breaks no rule writes that text, and does nothing else
+-- `canon` for net k of the canonical text of a valued document that breaks no rule and has net k writes that text,
+-- and does nothing else
 abbrev pub CanonStays : Type 0
 CanonStays =
-    (budgets : Budgets) (document : Document) → Valued document → BreaksNoRule document
-    → Outcome (Run tasks.Canon budgets) (canon document) 0 (canon document)
-    × ((status : ℕ) (text : List ℕ) → Outcome (Run tasks.Canon budgets) (canon document) status text → (status ≡ 0) × (text ≡ canon document))
+    (k : ℕ) (budgets : Budgets) (document : Document) (tree : NetTree) → Valued document → BreaksNoRule document → IsNet document k tree
+    → Outcome (Run tasks.Canon k budgets) (canon document) 0 (canon document)
+    × ((status : ℕ) (text : List ℕ) → Outcome (Run tasks.Canon k budgets) (canon document) status text → (status ≡ 0) × (text ≡ canon document))
 
 -- the canonical text of each sample net spells it, and the net breaks no rule
 abbrev pub SamplesAreInTheProfile : Type 0

@@ -16,13 +16,13 @@ use Rattle.pnml_grammar.specs.Documents.{DocBytes}
 use Rattle.pnml_grammar.specs.FirstFault.{Fault, FirstFault}
 use Rattle.page_flatten.specs.declared.fault.FlatFault.{FlatFault}
 use Rattle.page_flatten.specs.Rules.{FirstBroken, BreaksNoRule}
-use Rattle.page_flatten.specs.Flat.{Flat}
+use Rattle.page_flatten.specs.Flat.{Flat, LacksNet}
 use Rattle.struct_core.specs.declared.order.Task.{Task}
 use Rattle.struct_core.specs.declared.order.Task.TheVariants as tasks
 use Rattle.struct_core.specs.declared.order.Budgets.{Budgets}
 use Rattle.struct_core.specs.declared.order.Order.{Order}
 use Rattle.struct_core.specs.declared.order.Order.TheVariants.{Run, Sample}
-use Rattle.report.specs.FaultLines.{document_line, rule_line}
+use Rattle.report.specs.FaultLines.{document_line, rule_line, no_net_line}
 use Rattle.report.specs.declared.summary.Summary.{Summary}
 use Rattle.report.specs.SummaryText.{summary_text}
 use Rattle.struct_core.specs.Words.{default_budgets, IsInRange}
@@ -86,18 +86,21 @@ pub record Profile (bytes : List ℕ) (document : Document) : Type 0 where
   pub spelled : DocBytes document bytes
   pub rules : BreaksNoRule document
 
--- what an order gives for an input, by the bytes of its document
+-- what an order gives for an input, by the bytes of its document and the number of the net, from 1
 pub data Outcome : Order → List ℕ → ℕ → List ℕ → Type 0 where
   -- the bytes spell no document
-  no_document : (task : Task) (budgets : Budgets) (bytes : List ℕ) (fault : Fault) → FirstFault (front_of task bytes) fault
-      → Outcome (Run task budgets) bytes 3 (document_line fault)
+  no_document : (task : Task) (k : ℕ) (budgets : Budgets) (bytes : List ℕ) (fault : Fault) → FirstFault (front_of task bytes) fault
+      → Outcome (Run task k budgets) bytes 3 (document_line fault)
   -- they spell one that breaks a rule
-  broken : (task : Task) (budgets : Budgets) (bytes : List ℕ) (document : Document) (fault : FlatFault)
-      → DocBytes document (front_of task bytes) → FirstBroken document fault → Outcome (Run task budgets) bytes 3 (rule_line fault)
-  -- they spell one that breaks none
-  answer : (task : Task) (budgets : Budgets) (bytes : List ℕ) (document : Document) (net : NetLists) (status : ℕ) (text : List ℕ)
-      → Profile (front_of task bytes) document → Flat document net → TaskOutcome task budgets document net (rest_of task bytes) status text
-      → Outcome (Run task budgets) bytes status text
+  broken : (task : Task) (k : ℕ) (budgets : Budgets) (bytes : List ℕ) (document : Document) (fault : FlatFault)
+      → DocBytes document (front_of task bytes) → FirstBroken document fault → Outcome (Run task k budgets) bytes 3 (rule_line k fault)
+  -- they spell one that breaks none and has no net k
+  no_net : (task : Task) (k : ℕ) (budgets : Budgets) (bytes : List ℕ) (document : Document)
+      → Profile (front_of task bytes) document → LacksNet document k → Outcome (Run task k budgets) bytes 3 (no_net_line k)
+  -- they spell one that breaks none and has net k
+  answer : (task : Task) (k : ℕ) (budgets : Budgets) (bytes : List ℕ) (document : Document) (net : NetLists) (status : ℕ) (text : List ℕ)
+      → Profile (front_of task bytes) document → Flat document k net → TaskOutcome task budgets document net (rest_of task bytes) status text
+      → Outcome (Run task k budgets) bytes status text
   -- the sample net, which is in the profile, whatever the input
-  sample : (n : ℕ) (bytes : List ℕ) (net : NetLists) (status : ℕ) (text : List ℕ) → IsInRange (Sample n) → Flat (sample_document n) net
+  sample : (n : ℕ) (bytes : List ℕ) (net : NetLists) (status : ℕ) (text : List ℕ) → IsInRange (Sample n) → Flat (sample_document n) 1 net
       → SampleOutcome (sample_document n) net sample_tasks status text → Outcome (Sample n) bytes status text

@@ -52,7 +52,7 @@ pub record IsReadWhole (source source' : Device) (input : List ℕ) : Type 0 whe
 
 -- what an order reads: a task the whole input, `sample` nothing
 abbrev pub ReadsFor : Order → Device → Device → List ℕ → Type 0
-ReadsFor (Run task budgets) source source' input = IsReadWhole source source' input
+ReadsFor (Run task k budgets) source source' input = IsReadWhole source source' input
 ReadsFor (Sample n) source source' input = IsUntouched source source'
 
 -- a run with an outcome: what its order reads was read, and the text was written, or the outcome's status given

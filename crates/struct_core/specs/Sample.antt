@@ -3,6 +3,7 @@
 use Rattle.std.specs.Prelude.{ℕ, ◌+◌, ◌*◌, ◌%◌, List, [], ◌∷◌, ◌++◌, None, map, codes, decimal}
 use Rattle.std.specs.List.{flat_map, range_with_len}
 use Rattle.net_values.specs.declared.document.Document.{Document}
+use Rattle.net_values.specs.declared.document.NetTree.{NetTree}
 use Rattle.net_values.specs.declared.document.Item.{Item}
 use Rattle.net_values.specs.declared.document.Item.TheVariants.{Page, PageEnd, Place, Transition, Arc}
 
@@ -57,5 +58,8 @@ sample_items n =
     ++ (flat_map (arcs_of n) (range_with_len 0 n)
     ++ PageEnd ∷ [])))))
 
+abbrev pub sample_tree : ℕ → NetTree
+sample_tree n = record { id = codes "sample"; name = None; items = sample_items n }
+
 abbrev pub sample_document : ℕ → Document
-sample_document n = record { net = record { id = codes "sample"; name = None; items = sample_items n } }
+sample_document n = record { nets = sample_tree n ∷ [] }

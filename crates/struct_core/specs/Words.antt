@@ -1,10 +1,11 @@
 -- Which words mean which order.
 use Rattle.std.specs.Prelude.{◌≡◌, ℕ, ◌≤◌, List, [], ◌∷◌, ◌++◌, Option, Some, codes, decimal}
+use Rattle.net_values.specs.declared.limits.TheConstants.{MAX_NETS}
 use Rattle.pnml_grammar.specs.Elements.{kind_named}
 use Rattle.struct_core.specs.declared.order.Task.{Task}
 use Rattle.struct_core.specs.declared.order.Task.TheVariants.{Check, Canon, Class, Places, Transitions, Siphons, Traps, Bounds, Commoner, CertBounds, CertCommoner, Verify, Live, Sub, Replay}
-use Rattle.struct_core.specs.declared.order.Budget.{Budget}
-use Rattle.struct_core.specs.declared.order.Budget.TheVariants.{Rows, Sets}
+use Rattle.struct_core.specs.declared.order.Setting.{Setting}
+use Rattle.struct_core.specs.declared.order.Setting.TheVariants.{Net, Rows, Sets}
 use Rattle.struct_core.specs.declared.order.Order.{Order}
 use Rattle.struct_core.specs.declared.order.Order.TheVariants.{Run, Sample}
 use Rattle.struct_core.specs.declared.order.Budgets.{Budgets}
@@ -24,21 +25,22 @@ tasks = Check ∷ Canon ∷ Class ∷ Places ∷ Transitions ∷ Siphons ∷ Tra
 unfoldable pub task_named : List ℕ → Option Task
 task_named word = kind_named task_words tasks word
 
--- the words of the options, and the budgets that they say, in the same order
+-- the words of the options, and the settings that they say, in the same order
 unfoldable pub option_words : List (List ℕ)
-option_words = codes "--rows" ∷ codes "--sets" ∷ []
+option_words = codes "--net" ∷ codes "--rows" ∷ codes "--sets" ∷ []
 
-unfoldable pub options : List Budget
-options = Rows ∷ Sets ∷ []
+unfoldable pub options : List Setting
+options = Net ∷ Rows ∷ Sets ∷ []
 
--- the budget whose option has the word
-unfoldable pub budget_named : List ℕ → Option Budget
-budget_named word = kind_named option_words options word
+-- the setting whose option has the word
+unfoldable pub setting_named : List ℕ → Option Setting
+setting_named word = kind_named option_words options word
 
 -- ---- numbers
 
--- a budget where its option is absent
-abbrev pub default_of : Budget → ℕ
+-- a setting where its option is absent
+abbrev pub default_of : Setting → ℕ
+default_of Net = 1
 default_of Rows = 20000
 default_of Sets = 100000
 
@@ -46,7 +48,8 @@ abbrev pub default_budgets : Budgets
 default_budgets = record { rows = default_of Rows; sets = default_of Sets }
 
 -- the most that an option may say; the least is 1
-abbrev pub most_of : Budget → ℕ
+abbrev pub most_of : Setting → ℕ
+most_of Net = MAX_NETS
 most_of Rows = 100000
 most_of Sets = 1000000
 
@@ -64,26 +67,34 @@ pub record IsNumber (least most : ℕ) (word : List ℕ) (number : ℕ) : Type 0
 -- ---- lists of words
 
 -- no words, which mean the default, or the option's word and a number
-pub data MeansBudget (budget : Budget) : List (List ℕ) → ℕ → Type 0 where
-  by_default : MeansBudget budget [] (default_of budget)
-  by_option : (option word : List ℕ) (number : ℕ) → budget_named option ≡ Some budget → IsNumber 1 (most_of budget) word number
-      → MeansBudget budget (option ∷ word ∷ []) number
+pub data MeansSetting (setting : Setting) : List (List ℕ) → ℕ → Type 0 where
+  by_default : MeansSetting setting [] (default_of setting)
+  by_option : (option word : List ℕ) (number : ℕ) → setting_named option ≡ Some setting → IsNumber 1 (most_of setting) word number
+      → MeansSetting setting (option ∷ word ∷ []) number
 
--- the options of a task: first the one of rows, then the one of sets
+-- the options of the budgets: first the one of rows, then the one of sets
 pub record MeanBudgets (words : List (List ℕ)) (budgets : Budgets) : Type 0 where
   pub front : List (List ℕ)
   pub back : List (List ℕ)
   pub words_are : words ≡ front ++ back
-  pub rows : MeansBudget Rows front budgets.rows
-  pub sets : MeansBudget Sets back budgets.sets
+  pub rows : MeansSetting Rows front budgets.rows
+  pub sets : MeansSetting Sets back budgets.sets
 
--- the word of a task, and its options, with no more rows than it may take
-pub record MeansTask (words : List (List ℕ)) (task : Task) (budgets : Budgets) : Type 0 where
+-- the options of a task: first the one of the net, then those of the budgets
+pub record MeanOptions (words : List (List ℕ)) (k : ℕ) (budgets : Budgets) : Type 0 where
+  pub front : List (List ℕ)
+  pub back : List (List ℕ)
+  pub words_are : words ≡ front ++ back
+  pub net : MeansSetting Net front k
+  pub others : MeanBudgets back budgets
+
+-- the word of a task, and its options, with no more rows than it may take; the nets are counted from 1
+pub record MeansTask (words : List (List ℕ)) (task : Task) (k : ℕ) (budgets : Budgets) : Type 0 where
   pub word : List ℕ
   pub others : List (List ℕ)
   pub words_are : words ≡ word ∷ others
   pub named : task_named word ≡ Some task
-  pub said : MeanBudgets others budgets
+  pub said : MeanOptions others k budgets
   pub within : budgets.rows ≤ most_rows task
 
 -- `sample` and a number
@@ -93,12 +104,12 @@ pub record MeansSample (words : List (List ℕ)) (n : ℕ) : Type 0 where
   pub number : IsNumber 2 200 word n
 
 abbrev pub Means : List (List ℕ) → Order → Type 0
-Means words (Run task budgets) = MeansTask words task budgets
+Means words (Run task k budgets) = MeansTask words task k budgets
 Means words (Sample n) = MeansSample words n
 
--- a sample net can have so many philosophers
+-- a document can have so many nets, and a sample net so many philosophers
 abbrev pub IsInRange : Order → Type 0
-IsInRange (Run _ _) = Unit
+IsInRange (Run task k budgets) = (1 ≤ k) × (k ≤ MAX_NETS)
 IsInRange (Sample n) = (2 ≤ n) × (n ≤ 200)
 
 -- a list of words has at most one meaning

@@ -1,7 +1,10 @@
-ghost use Rattle.std.specs.Prelude.{IfOk, IfErr};
+ghost use Rattle.std.specs.Prelude.{◌≤◌, IfOk, IfErr};
+ghost use Rattle.pnml_grammar.specs.Valued.{Valued};
+ghost use Rattle.page_flatten.specs.Rules.{BreaksNoRule};
+ghost use Rattle.page_flatten.specs.Flat.{Flat};
 ghost use Rattle.struct_core.specs.declared.order.Order.{Order as Ordered};
 ghost use Rattle.struct_core.specs.Outcome.{Outcome, TaskOutcome};
-ghost use Rattle.struct_core.specs.Answers.{FailsWith};
+ghost use Rattle.struct_core.specs.Answers.{FailsWith, IsRefusedNet};
 
 use crate::certified::{bounds_certified, verdict_certified};
 use crate::inputs::split;
@@ -21,20 +24,35 @@ use pnml_write::canonical;
 use report::{Refusal, check_text, class_text};
 use std::alloc::Global;
 
-/// The text of a task for an input.
+/// The text of a task for the net of this number, from 1, in the document of an input.
 pub(crate) fn answer(
     alloc: Global,
     task: Task,
+    k: u32,
     budgets: Budgets,
     bytes: &[u8],
 ) -> Result<Text, Refusal>
-    ensures text { IfOk result (Outcome (Ordered.Run task budgets) bytes.now 0) }
-    ensures refused { IfErr result (FailsWith (Outcome (Ordered.Run task budgets) bytes.now)) }
+    requires { 1 ≤ k }
+    ensures text { IfOk result (Outcome (Ordered.Run task k budgets) bytes.now 0) }
+    ensures refused { IfErr result (FailsWith (Outcome (Ordered.Run task k budgets) bytes.now)) }
 {
     let (front, rest) = split(task, bytes);
     let document = decode(alloc, front)?;
-    let net = flatten(alloc, &document)?;
+    let net = chosen_net(alloc, k, &document)?;
     text_of(alloc, task, budgets, &document, &net, rest)
+}
+
+/// The flat net of the net of this number, from 1, in a document.
+pub(crate) fn chosen_net(alloc: Global, k: u32, document: &Document) -> Result<FlatNet, Refusal>
+    requires number { 1 ≤ k }
+    requires valued { Valued document.now }
+    ensures flat { IfOk result (λ net. BreaksNoRule document.now × Flat document.now k net) }
+    ensures refused { IfErr result (IsRefusedNet document.now k) }
+{
+    match flatten(alloc, document, k as usize - 1) {
+        Ok(net) => Ok(net),
+        Err(fault) => Err(Refusal::Rule(k, fault)),
+    }
 }
 
 /// The text of a task for a document, its flat net and what follows its bytes.

@@ -41,12 +41,13 @@ pub fn accepted_certificates_are_true()
     ensures { AcceptedCertificatesAreTrue }
 {}
 
-/// What `cert-bounds` and `cert-commoner` write `verify` accepts.
+/// What `cert-bounds` and `cert-commoner` write of a net `verify` accepts of it.
 pub fn made_certificates_are_accepted()
     ensures { MadeCertificatesAreAccepted }
 {}
 
-/// `canon` of a canonical text writes that text and does nothing else, where the document breaks no rule.
+/// `canon` of a canonical text writes that text and does nothing else, where the document breaks no rule and has
+/// the net that is asked for.
 pub fn canonical_text_stays()
     ensures { CanonStays }
 {}
@@ -63,7 +64,7 @@ pub fn some_outcome()
     ensures { HasSomeOutcome }
 {}
 
-/// A run without faults, on a document of the profile whose net stays within the limits of the task, for `verify`
+/// A run without faults, on a document of the profile whose chosen net stays within the limits of the task, for `verify`
 /// with a certificate that the net accepts, and for `replay` with a firing list that fires within range, writes the
 /// defined text, or memory was refused.
 pub fn quiet_runs_complete()

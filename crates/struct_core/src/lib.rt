@@ -25,7 +25,7 @@ pub use laws::{
     printed_bounds_hold, printed_sets_are_closed, printed_vectors_are_semiflows,
     proved_nets_are_live, quiet_runs_complete, samples_are_in_the_profile, some_outcome,
 };
-pub use order::{Budget, Budgets, Order, Task};
+pub use order::{Budgets, Order, Setting, Task};
 pub use philosophers::sample_net;
 pub use running::run;
 pub use tables::{OPTIONS, TASKS, option_words, task_words};

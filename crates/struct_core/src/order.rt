@@ -2,6 +2,7 @@ ghost use Rattle.std.specs.Prelude.{◌≡◌};
 ghost use Rattle.struct_core.specs.Words.{default_budgets as the_default_budgets};
 
 use crate::tables::{OPTIONS, TASKS};
+use net_values::MAX_NETS;
 use pnml_grammar::find_in;
 
 /// What a run is to compute of a net, in the order of [`TASKS`](crate::TASKS).
@@ -75,41 +76,44 @@ impl Task {
     {
         match self {
             Task::Sub => 50_000,
-            _ => Budget::Rows.most(),
+            _ => Setting::Rows.most(),
         }
     }
 }
 
-/// What an enumeration may take, by the option that says how much, in the order of [`OPTIONS`](crate::OPTIONS).
+/// What an option of a task says, in the order of [`OPTIONS`](crate::OPTIONS).
 #[derive(Clone, Copy, Debug, PartialEq, Eq)]
-pub enum Budget {
+pub enum Setting {
+    /// Which net of the document, counted from 1.
+    Net,
     /// Candidate rows of one elimination step.
     Rows,
     /// Siphons or traps that a search meets.
     Sets,
 }
 
-const BUDGET_ORDER: [Budget; 2] = [Budget::Rows, Budget::Sets];
+const SETTING_ORDER: [Setting; 3] = [Setting::Net, Setting::Rows, Setting::Sets];
 
-impl Budget {
-    ghost use Rattle.struct_core.specs.Words.{budget_named, default_of, most_of};
+impl Setting {
+    ghost use Rattle.struct_core.specs.Words.{setting_named, default_of, most_of};
 
-    /// The budget whose option has this word.
-    #[tactic(auto, unfolding(crate::specs::Words::budget_named, crate::specs::Words::option_words, crate::specs::Words::options))]
-    pub fn named(word: &[u8]) -> Option<Budget>
-        ensures { result ≡ budget_named word.now }
+    /// The setting whose option has this word.
+    #[tactic(auto, unfolding(crate::specs::Words::setting_named, crate::specs::Words::option_words, crate::specs::Words::options))]
+    pub fn named(word: &[u8]) -> Option<Setting>
+        ensures { result ≡ setting_named word.now }
     {
         let row = find_in(&OPTIONS.names, word)?;
-        BUDGET_ORDER.get(row).copied()
+        SETTING_ORDER.get(row).copied()
     }
 
-    /// The budget where its option is absent.
+    /// The setting where its option is absent.
     pub fn default(self) -> u32
         ensures { result ≡ default_of self }
     {
         match self {
-            Budget::Rows => 20_000,
-            Budget::Sets => 100_000,
+            Setting::Net => 1,
+            Setting::Rows => 20_000,
+            Setting::Sets => 100_000,
         }
     }
 
@@ -118,8 +122,9 @@ impl Budget {
         ensures { result ≡ most_of self }
     {
         match self {
-            Budget::Rows => 100_000,
-            Budget::Sets => 1_000_000,
+            Setting::Net => MAX_NETS as u32,
+            Setting::Rows => 100_000,
+            Setting::Sets => 1_000_000,
         }
     }
 }
@@ -138,16 +143,16 @@ pub(crate) fn default_budgets() -> Budgets
     ensures { result ≡ the_default_budgets }
 {
     Budgets {
-        rows: Budget::Rows.default(),
-        sets: Budget::Sets.default(),
+        rows: Setting::Rows.default(),
+        sets: Setting::Sets.default(),
     }
 }
 
 /// What the words of the command line mean.
 #[derive(Clone, Copy, Debug, PartialEq, Eq)]
 pub enum Order {
-    /// A task on the document of the input.
-    Run(Task, Budgets),
+    /// A task on the net of this number, from 1, in the document of the input.
+    Run(Task, u32, Budgets),
     /// A summary of the sample net of so many philosophers.
     Sample(u32),
 }

@@ -3,7 +3,8 @@ ghost use Rattle.std.specs.List.{flat_map, range_with_len};
 ghost use Rattle.struct_core.specs.Sample.{numbered, place, transition, transitions_of, arc, takes, releases, arcs_of, sample_document};
 
 use net_values::{
-    ArcNode, Document, Item, Items, NetTree, NoMemory, PageNode, PlaceNode, Text, TransitionNode,
+    ArcNode, Document, Item, Items, NetTree, Nets, NoMemory, PageNode, PlaceNode, Text,
+    TransitionNode,
 };
 use std::alloc::Global;
 
@@ -24,13 +25,13 @@ pub fn sample_net(alloc: Global, n: u32) -> Result<Document, NoMemory>
     push_transitions(&mut items, alloc, n)?;
     push_arcs(&mut items, alloc, n)?;
     items.push(Item::PageEnd)?;
-    Ok(Document {
-        net: NetTree {
-            id: word(alloc, "sample")?,
-            name: None,
-            items,
-        },
-    })
+    let mut nets = Nets::new(alloc);
+    nets.push(NetTree {
+        id: word(alloc, "sample")?,
+        name: None,
+        items,
+    })?;
+    Ok(Document { nets })
 }
 
 /// Appends a place for each philosopher.

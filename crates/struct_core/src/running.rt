@@ -22,9 +22,9 @@ fn obtain<S: Source>(alloc: Global, order: Order, source: &mut S) -> Result<Text
         (EndsBy order (device (S.left source.old) (S.faults source.old)) (device (S.left source.new) (S.faults source.new))) }
 {
     match order {
-        Order::Run(task, budgets) => {
+        Order::Run(task, net, budgets) => {
             let bytes = read_all(alloc, source, MAX_INPUT_BYTES)?;
-            answer(alloc, task, budgets, bytes.as_slice())
+            answer(alloc, task, net, budgets, bytes.as_slice())
         }
         Order::Sample(n) => sample_report(alloc, n),
     }

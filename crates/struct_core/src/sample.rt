@@ -6,6 +6,7 @@ ghost use Rattle.struct_core.specs.Answers.{FailsWith};
 ghost use Rattle.struct_core.specs.Outcome.{Outcome, SampleOutcome, sample_tasks};
 ghost use Rattle.struct_core.specs.Summaries.{is_yes, HasGreatest, IsGreater};
 
+use crate::answer::chosen_net;
 use crate::order::default_budgets;
 use crate::philosophers::sample_net;
 use crate::place_bounds::list_bounds;
@@ -14,7 +15,6 @@ use crate::siphons::list_siphons;
 use bounds::Bounds;
 use net_class::{Verdict, commoner};
 use net_values::{FlatNet, NodeKind, Text};
-use page_flatten::flatten;
 use pnml_decode::decode;
 use pnml_write::canonical;
 use report::{Refusal, Summary, sample_text};
@@ -29,7 +29,7 @@ pub(crate) fn sample_report(alloc: Global, n: u32) -> Result<Text, Refusal>
     let sample = sample_net(alloc, n)?;
     let bytes = canonical(alloc, &sample)?;
     let document = decode(alloc, bytes.as_bytes())?;
-    let net = flatten(alloc, &document)?;
+    let net = chosen_net(alloc, 1, &document)?;
     let summary = summarize(alloc, &net)?;
     Ok(sample_text(alloc, &summary)?)
 }

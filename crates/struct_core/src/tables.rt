@@ -24,9 +24,9 @@ pub const TASKS: Names<15> = Names {
     ],
 };
 
-/// The words of the options, in the order of [`Budget`](crate::Budget).
-pub const OPTIONS: Names<2> = Names {
-    names: [b"--rows", b"--sets"],
+/// The words of the options, in the order of [`Setting`](crate::Setting).
+pub const OPTIONS: Names<3> = Names {
+    names: [b"--net", b"--rows", b"--sets"],
 };
 
 /// The words of the tasks in table order.
@@ -40,7 +40,7 @@ pub fn task_words() -> [&'static [u8]; 15]
 
 /// The words of the options in table order.
 #[tactic(auto, unfolding(crate::specs::Words::option_words))]
-pub fn option_words() -> [&'static [u8]; 2]
+pub fn option_words() -> [&'static [u8]; 3]
     ensures { map (λ word. word.now) result ≡ the_option_words }
 {
     let Names { names } = OPTIONS;

@@ -1,10 +1,10 @@
 ghost use Rattle.std.specs.Prelude.{◌≡◌, ◌↔◌, ◌∷◌, ℕ, None, Some, IsTrue, IfSome, IfNone};
 ghost use Rattle.struct_core.specs.declared.order.Budgets.{Budgets as Allowed};
 ghost use Rattle.struct_core.specs.declared.order.Order.{Order as Meaning};
-ghost use Rattle.struct_core.specs.Words.{IsNumber, MeanBudgets, Means, budget_named, task_named};
-ghost use Rattle.struct_core.specs.WordReading.{TakesBudget, HasBadNumber};
+ghost use Rattle.struct_core.specs.Words.{IsNumber, MeanBudgets, MeanOptions, Means, setting_named, task_named};
+ghost use Rattle.struct_core.specs.WordReading.{TakesSetting, HasBadNumber};
 
-use crate::order::{Budget, Budgets, Order, Task};
+use crate::order::{Budgets, Order, Setting, Task};
 use net_values::{List, Text, read_decimal};
 
 /// The words after the program's name.
@@ -30,9 +30,9 @@ fn read_order(word: &[u8], rest: &[Text]) -> Option<Order>
 {
     match Task::named(word) {
         Some(task) => {
-            let budgets = read_budgets(rest)?;
+            let (net, budgets) = read_options(rest)?;
             if budgets.rows <= task.most_rows() {
-                Some(Order::Run(task, budgets))
+                Some(Order::Run(task, net, budgets))
             } else {
                 None
             }
@@ -53,13 +53,24 @@ fn read_sample(word: &[u8], rest: &[Text]) -> Option<Order>
     }
 }
 
-/// The budgets that the options of a task say.
+/// The number of the net and the budgets that the options of a task say.
+fn read_options(words: &[Text]) -> Option<(u32, Budgets)>
+    ensures meant { IfSome result (λ said. MeanOptions words.now said.0 said.1) }
+    ensures none { IfNone result
+        ((k : ℕ) (budgets : Allowed) → MeanOptions words.now k budgets → ⊥) }
+{
+    let (net, others) = read_setting(Setting::Net, words)?;
+    let budgets = read_budgets(others)?;
+    Some((net, budgets))
+}
+
+/// The budgets that the options after that of the net say.
 fn read_budgets(words: &[Text]) -> Option<Budgets>
     ensures meant { IfSome result (λ budgets. MeanBudgets words.now budgets) }
     ensures none { IfNone result ((budgets : Allowed) → MeanBudgets words.now budgets → ⊥) }
 {
-    let (rows, others) = read_budget(Budget::Rows, words)?;
-    let (sets, rest) = read_budget(Budget::Sets, others)?;
+    let (rows, others) = read_setting(Setting::Rows, words)?;
+    let (sets, rest) = read_setting(Setting::Sets, others)?;
     if rest.is_empty() {
         Some(Budgets { rows, sets })
     } else {
@@ -67,30 +78,30 @@ fn read_budgets(words: &[Text]) -> Option<Budgets>
     }
 }
 
-/// The budget that its option says at the front of the words, or its default where the option isn't there; and
+/// The setting that its option says at the front of the words, or its default where the option isn't there; and
 /// the words after it.
-fn read_budget<'w>(budget: Budget, words: &'w [Text]) -> Option<(u32, &'w [Text])>
-    ensures taken { IfSome result (λ taken. TakesBudget budget words.now taken.0 taken.1.now) }
-    ensures none { IfNone result (HasBadNumber budget words.now) }
+fn read_setting<'w>(setting: Setting, words: &'w [Text]) -> Option<(u32, &'w [Text])>
+    ensures taken { IfSome result (λ taken. TakesSetting setting words.now taken.0 taken.1.now) }
+    ensures none { IfNone result (HasBadNumber setting words.now) }
 {
     match words {
         [option, number, rest @ ..] => {
-            if is_option(option.as_bytes(), budget) {
-                Some((read_number(number.as_bytes(), 1, budget.most())?, rest))
+            if is_option(option.as_bytes(), setting) {
+                Some((read_number(number.as_bytes(), 1, setting.most())?, rest))
             } else {
-                Some((budget.default(), words))
+                Some((setting.default(), words))
             }
         }
-        _ => Some((budget.default(), words)),
+        _ => Some((setting.default(), words)),
     }
 }
 
-/// Whether the word is that of the budget's option.
-fn is_option(word: &[u8], budget: Budget) -> bool
-    ensures { IsTrue result ↔ (budget_named word.now ≡ Some budget) }
+/// Whether the word is that of the setting's option.
+fn is_option(word: &[u8], setting: Setting) -> bool
+    ensures { IsTrue result ↔ (setting_named word.now ≡ Some setting) }
 {
-    match Budget::named(word) {
-        Some(named) => named == budget,
+    match Setting::named(word) {
+        Some(named) => named == setting,
         None => false,
     }
 }
