@@ -134,10 +134,10 @@ const FAULTY_INPUTS: [InputLine; 12] = [
         b"document refused at 139: misplaced\n",
     ),
     (
-        "a second net",
+        "characters between two nets",
         &[
             HEAD,
-            b"</net><net id=\"m\" type=\"http://www.pnml.org/version-2009/grammar/ptnet\"/></pnml>",
+            b"</net>5<net id=\"m\" type=\"http://www.pnml.org/version-2009/grammar/ptnet\"/></pnml>",
         ],
         b"document refused at 132: misplaced\n",
     ),

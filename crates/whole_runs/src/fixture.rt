@@ -5,7 +5,8 @@ use std::alloc::Global;
 use std::process::Abort;
 use struct_core::{Words, run};
 
-pub const USAGE: &[u8] = b"usage: pnmlstruct TASK [--rows N] [--sets N], or pnmlstruct sample N\n";
+pub const USAGE: &[u8] =
+    b"usage: pnmlstruct TASK [--net K] [--rows N] [--sets N], or pnmlstruct sample N\n";
 
 /// A run, and what it leaves.
 #[derive(Drop)]

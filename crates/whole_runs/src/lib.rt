@@ -27,6 +27,8 @@ mod replays;
 #[cfg(test)]
 mod semiflows;
 #[cfg(test)]
+mod several_nets;
+#[cfg(test)]
 mod siphons_and_traps;
 #[cfg(test)]
 mod sub_semiflows;

@@ -4,7 +4,7 @@ use net_values::NoMemory;
 use std::alloc::Global;
 use std::test::Fail;
 
-const MEANINGLESS: [(&str, &[&str]); 28] = [
+const MEANINGLESS: [(&str, &[&str]); 35] = [
     ("a leading zero", &["places", "--rows", "007"]),
     ("a zero", &["places", "--rows", "0"]),
     ("two zeros", &["places", "--sets", "00"]),
@@ -39,7 +39,20 @@ const MEANINGLESS: [(&str, &[&str]); 28] = [
     ("rows twice", &["places", "--rows", "5", "--rows", "5"]),
     ("sets twice", &["siphons", "--sets", "5", "--sets", "5"]),
     ("one word with a sign", &["places", "--rows=5"]),
-    ("another option", &["places", "--net", "1"]),
+    ("another option", &["places", "--nets", "1"]),
+    ("a net of 0", &["check", "--net", "0"]),
+    ("a net above the range", &["check", "--net", "65"]),
+    ("no number of a net", &["check", "--net"]),
+    ("the net twice", &["check", "--net", "1", "--net", "1"]),
+    (
+        "the net after the rows",
+        &["check", "--rows", "5", "--net", "1"],
+    ),
+    (
+        "the net after the sets",
+        &["check", "--sets", "5", "--net", "1"],
+    ),
+    ("a sample of a net", &["sample", "3", "--net", "1"]),
     ("an option in front", &["--rows", "5", "places"]),
     ("a word after it", &["places", "--rows", "5", "x"]),
     ("a sample of 1", &["sample", "1"]),
@@ -65,7 +78,12 @@ fn options_that_mean_nothing_end_a_run_before_it_reads(rt: HostRuntime) -> Resul
 }
 
 /// Options that have no effect on the task.
-const WITHOUT_EFFECT: [(&str, &[&str]); 4] = [
+const WITHOUT_EFFECT: [(&str, &[&str]); 6] = [
+    ("the first net", &["check", "--net", "1"]),
+    (
+        "the first net with both",
+        &["check", "--net", "1", "--rows", "1", "--sets", "1"],
+    ),
     ("the least rows", &["check", "--rows", "1"]),
     ("the most rows", &["check", "--rows", "100000"]),
     (
