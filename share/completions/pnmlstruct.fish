@@ -20,5 +20,6 @@ for line in \
     set -l parts (string split -m 1 : $line)
     complete -c pnmlstruct -n __fish_use_subcommand -a $parts[1] -d $parts[2]
 end
+complete -c pnmlstruct -n 'not __fish_use_subcommand' -l net -x -d 'number of the net, 1 to 64'
 complete -c pnmlstruct -n 'not __fish_use_subcommand' -l rows -x -d 'candidate rows of a step, 1 to 100000'
 complete -c pnmlstruct -n 'not __fish_use_subcommand' -l sets -x -d 'grown siphons or traps, 1 to 1000000'
