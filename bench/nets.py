@@ -174,6 +174,19 @@ def islands(n):
     return net
 
 
+def layers(n):
+    """A ring of n layers of two places. A transition feeds a place from both places of the layer before, so a minimal siphon
+    has one place of each layer: there are 2^n of them, and as many grown ones."""
+    net = Net()
+    for i in range(n):
+        net.place("a%d" % i, 1)
+        net.place("b%d" % i)
+    for i in range(n):
+        for side in "ab":
+            net.transition("%st%d" % (side, i), ["a%d" % i, "b%d" % i], ["%s%d" % (side, (i + 1) % n)])
+    return net
+
+
 def mutual_exclusion(n):
     """n processes that share one lock."""
     net = Net()

@@ -15,6 +15,7 @@ for line in \
     'cert-bounds:a certificate of the bounds' \
     'cert-commoner:a certificate of the verdict' \
     'verify:check a certificate' \
+    'resume:go on with a search for siphons' \
     'replay:fire a list of transitions' \
     'sample:a summary for N philosophers'
     set -l parts (string split -m 1 : $line)

@@ -29,26 +29,30 @@ each_right P (x ∷ xs) ys each = each_right P xs ys each.1
 
 -- ---- one list of classes
 
-same_list : (places : ℕ) → places ≤ MAX_PLACES → (classes others : List Branch) → AllByRecursion (HasSize places) classes → AllByRecursion (HasSize places) others → map class_line classes ≡ map class_line others → classes ≡ others
-same_list places fits [] [] sized alike same = refl
-same_list places fits [] (other ∷ others) sized alike same = absurd (cc)
-same_list places fits (class ∷ classes) [] sized alike same = absurd (cc)
-same_list places fits (class ∷ classes) (other ∷ others) sized alike same =
+alike : (one other : Branch) → IsNameable one → IsNameable other → class_line one ≡ class_line other → HaveSamePlaces one other
+alike one other named also same = same_line_places MAX_PLACES (omega arith) one other (named_inside one named) (named_inside other also) same
+
+same_list : (places : ℕ) (classes others : List Branch) → AllByRecursion (HasSize places) classes → AllByRecursion (HasSize places) others → AreNameable classes → AreNameable others → map class_line classes ≡ map class_line others → classes ≡ others
+same_list places [] [] sized also named nameable same = refl
+same_list places [] (other ∷ others) sized also named nameable same = absurd (cc)
+same_list places (class ∷ classes) [] sized also named nameable same = absurd (cc)
+same_list places (class ∷ classes) (other ∷ others) sized also named nameable same =
     let heads : class_line class ≡ class_line other = cc in
     let tails : map class_line classes ≡ map class_line others = cc in
-    let one = same_class places class other sized.0 alike.0 (same_line_places places fits class other (sized_inside places class sized.0) (sized_inside places other alike.0) heads) in
-    λ i. one i ∷ same_list places fits classes others sized.1 alike.1 tails i
+    let one = same_class places class other sized.0 also.0 (alike class other named.0 nameable.0 heads) in
+    λ i. one i ∷ same_list places classes others sized.1 also.1 named.1 nameable.1 tails i
 
 not_empty : (bytes : List ℕ) (classes : List Branch) → bytes ≡ [] → BeginsWithToken bytes classes → ⊥
 not_empty bytes classes none token = absurd (let both : [] ≡ token_text classes ++ token.rest = sym none ∙ token.parts in cc)
 
-one_list : (places : ℕ) (bytes : List ℕ) → places ≤ MAX_PLACES → (one other : List Branch) → ReadsPending places bytes one → ReadsPending places bytes other → one ≡ other
-one_list places bytes fits one other first second = go first.spelled second.spelled where
+one_list : (places : ℕ) (bytes : List ℕ) (one other : List Branch) → ReadsPending places bytes one → ReadsPending places bytes other → one ≡ other
+one_list places bytes one other first second = go first.spelled second.spelled where
   go : StandsFor places bytes one → StandsFor places bytes other → one ≡ other
   go (inl here) (inl there) = here.1 ∙ sym there.1
   go (inl here) (inr there) = absurd (not_empty bytes other here.0 there)
   go (inr here) (inl there) = absurd (not_empty bytes one there.0 here)
-  go (inr here) (inr there) = same_list places fits one other (all_each (HasSize places) one first.pending.sizes) (all_each (HasSize places) other second.pending.sizes) (one_token bytes one other here there)
+  go (inr here) (inr there) = same_list places one other (all_each (HasSize places) one first.pending.sizes) (all_each (HasSize places) other second.pending.sizes)
+      (all_each IsNameable one here.nameable) (all_each IsNameable other there.nameable) (one_token bytes one other here there)
 
 -- ---- one malformed line
 
@@ -133,9 +137,6 @@ twin_of (first ∷ one) class after (other ∷ two) rest same less =
     let tails : map class_line (one ++ class ∷ after) ≡ map class_line two ++ rest = cc in
     let h = twin_of one class after two rest tails (omega (arith, less)) in
     record { front = other ∷ h.front; twin = h.twin; more = h.more; parts = ap (λ (cs : List Branch). other ∷ cs) h.parts; lines = λ i. heads i ∷ h.lines i; line = h.line }
-
-alike : (one other : Branch) → IsNameable one → IsNameable other → class_line one ≡ class_line other → HaveSamePlaces one other
-alike one other named also same = same_line_places MAX_PLACES (omega arith) one other (named_inside one named) (named_inside other also) same
 
 inside_alike : (places : ℕ) (one other : Branch) → HaveSamePlaces one other → IsOfNet places other → IsOfNet places one
 inside_alike places one other same inside p either = elim either [
@@ -228,8 +229,8 @@ shorter_list (first ∷ one) class after (other ∷ two) same =
     let tails : map class_line (one ++ class ∷ after) ≡ map class_line two = cc in
     let less = shorter_list one class after two tails in omega (arith, less)
 
-read_or_rejected : (places : ℕ) (bytes : List ℕ) → places ≤ MAX_PLACES → (classes : List Branch) (line : ℕ) → ReadsPending places bytes classes → IsRejectedAt places bytes line → ⊥
-read_or_rejected places bytes fits classes line read rejected = go read.spelled where
+read_or_rejected : (places : ℕ) (bytes : List ℕ) (classes : List Branch) (line : ℕ) → ReadsPending places bytes classes → IsRejectedAt places bytes line → ⊥
+read_or_rejected places bytes classes line read rejected = go read.spelled where
   go : StandsFor places bytes classes → ⊥
   go (inl none) = not_empty bytes (rejected.before ++ rejected.class ∷ rejected.after) none.0 rejected.token
   go (inr token) =
@@ -241,18 +242,15 @@ read_or_rejected places bytes fits classes line read rejected = go read.spelled 
       not_refused places rejected.before rejected.class classes (each_left IsNameable rejected.before (rejected.class ∷ rejected.after) named) (each_right IsNameable rejected.before (rejected.class ∷ rejected.after) named).0
       (all_each IsNameable classes token.nameable) twin good read.pending.disjoint rejected.refused
 
-one_of : (places : ℕ) (bytes : List ℕ) → places ≤ MAX_PLACES → OnePendingReading places bytes
-one_of places bytes fits = record {
-  classes = one_list places bytes fits;
+pub one_reading : OneReading
+one_reading places bytes = record {
+  classes = one_list places bytes;
   malformed = one_malformed bytes;
   rejected = one_rejected places bytes;
   read_or_malformed = λ classes line read bad. elim read.spelled [ inl none ↦ bad.some none.0 | inr token ↦ bad.none classes token ];
-  read_or_rejected = read_or_rejected places bytes fits;
+  read_or_rejected = read_or_rejected places bytes;
   malformed_or_rejected = λ one other bad rejected. bad.none (rejected.before ++ rejected.class ∷ rejected.after) rejected.token;
 }
-
-pub one_reading : OneReading
-one_reading places bytes fits = one_of places bytes fits
 
 pub tokens_are_read_back : TokensAreReadBack
 tokens_are_read_back places classes more fits pending = record {
@@ -260,5 +258,5 @@ tokens_are_read_back places classes more fits pending = record {
     pending = pending;
     spelled = inr record { nameable = λ k d below. sized_named places (get_or classes k d) fits (pending.sizes k d below) (pending.consistent k d below); rest = more; parts = refl };
   };
-  only = one_of places (token_text classes ++ more) fits;
+  only = one_reading places (token_text classes ++ more);
 }

@@ -22,7 +22,7 @@ pub record OnePendingReading (places : ℕ) (bytes : List ℕ) : Type 0 where
   pub malformed_or_rejected : (one other : ℕ) → IsMalformedAt bytes one → IsRejectedAt places bytes other → ⊥
 
 abbrev pub OneReading : Type 0
-OneReading = (places : ℕ) (bytes : List ℕ) → places ≤ MAX_PLACES → OnePendingReading places bytes
+OneReading = (places : ℕ) (bytes : List ℕ) → OnePendingReading places bytes
 
 -- the token of pending classes is read as these classes, whatever follows it, and as no others
 pub record IsReadBack (places : ℕ) (classes : List Branch) (bytes : List ℕ) : Type 0 where

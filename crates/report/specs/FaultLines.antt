@@ -105,6 +105,13 @@ malformed_line number = numbered_line (codes "certificate malformed") number
 abbrev pub rejected_line : ℕ → List ℕ
 rejected_line number = numbered_line (codes "certificate rejected") number
 
+-- it is one of a pending token
+abbrev pub pending_malformed_line : ℕ → List ℕ
+pending_malformed_line number = numbered_line (codes "pending malformed") number
+
+abbrev pub pending_rejected_line : ℕ → List ℕ
+pending_rejected_line number = numbered_line (codes "pending rejected") number
+
 -- it is one of a firing list: it names no transition, a place lacks tokens for the one that it names, or a place
 -- would have too many; members count from 0, the lines from 1
 abbrev pub firing_malformed_line : ℕ → List ℕ

@@ -6,10 +6,10 @@ use Rattle.pnml_decode.specs.declared.fault.DocFault.{DocFault}
 use Rattle.pnml_decode.specs.declared.fault.DocFault.TheVariants as documents
 use Rattle.pnml_grammar.specs.FirstFault.{not_utf8, at, truncated}
 use Rattle.report.specs.declared.refusal.Refusal.{Refusal}
-use Rattle.report.specs.declared.refusal.Refusal.TheVariants.{Usage, Document, Rule, Excess as Exceeds, Malformed, Rejected, MalformedFiring, RejectedFiring, TooLong, ReadFault, WriteFault, NoMemory}
+use Rattle.report.specs.declared.refusal.Refusal.TheVariants.{Usage, Document, Rule, Excess as Exceeds, Malformed, Rejected, MalformedPending, RejectedPending, MalformedFiring, RejectedFiring, TooLong, ReadFault, WriteFault, NoMemory}
 use Rattle.report.specs.declared.refusal.Excess.{Excess}
 use Rattle.report.specs.declared.refusal.Excess.TheVariants.{WideSum, WideRow, WideBound, WideCheck, WideMarking, RowBudget, SetLimit}
-use Rattle.report.specs.FaultLines.{document_line, rule_line, wide_sum_line, wide_row_line, wide_bound_line, wide_check_line, budget_line, limit_line, malformed_line, rejected_line, firing_malformed_line, firing_rejected_line, wide_marking_line, usage_line, length_line, read_line, write_line, memory_line}
+use Rattle.report.specs.FaultLines.{document_line, rule_line, wide_sum_line, wide_row_line, wide_bound_line, wide_check_line, budget_line, limit_line, malformed_line, rejected_line, pending_malformed_line, pending_rejected_line, firing_malformed_line, firing_rejected_line, wide_marking_line, usage_line, length_line, read_line, write_line, memory_line}
 use Rattle.pnml_source.specs.declared.reading.ReadAllFault.{ReadAllFault}
 use Rattle.pnml_source.specs.declared.reading.ReadAllFault.TheVariants as readings
 
@@ -44,6 +44,8 @@ status_of (Rule k fault) = rule_status fault
 status_of (Exceeds excess) = excess_status excess
 status_of (Malformed number) = 1
 status_of (Rejected number) = 1
+status_of (MalformedPending number) = 1
+status_of (RejectedPending number) = 1
 status_of (MalformedFiring number) = 1
 status_of (RejectedFiring member id) = 1
 status_of TooLong = 7
@@ -73,6 +75,8 @@ line_of (Rule k fault) = rule_line k fault
 line_of (Exceeds excess) = excess_line excess
 line_of (Malformed number) = malformed_line number
 line_of (Rejected number) = rejected_line number
+line_of (MalformedPending number) = pending_malformed_line number
+line_of (RejectedPending number) = pending_rejected_line number
 line_of (MalformedFiring number) = firing_malformed_line number
 line_of (RejectedFiring member id) = firing_rejected_line member id
 line_of TooLong = length_line

@@ -25,6 +25,8 @@ pub fn tell<O: Sink>(sink: &mut O, refusal: &Refusal) -> Result<(), WriteFault>
         Refusal::Excess(excess) => tell_excess(sink, excess),
         Refusal::Malformed(number) => tell_line(sink, b"certificate malformed", *number),
         Refusal::Rejected(number) => tell_line(sink, b"certificate rejected", *number),
+        Refusal::MalformedPending(number) => tell_line(sink, b"pending malformed", *number),
+        Refusal::RejectedPending(number) => tell_line(sink, b"pending rejected", *number),
         Refusal::MalformedFiring(number) => tell_line(sink, b"firing list malformed", *number),
         Refusal::RejectedFiring(member, id) => tell_rejected_firing(sink, *member, id),
         Refusal::TooLong => write_all(sink, b"input too long\n"),

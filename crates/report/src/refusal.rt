@@ -21,6 +21,11 @@ pub enum Refusal {
     Malformed(u64),
     /// The condition of this line of the certificate, counted from 1, is false of the net.
     Rejected(u64),
+    /// The bytes behind the document begin with no pending token, by this line, counted from 1.
+    MalformedPending(u64),
+    /// The class of this line of the pending token, counted from 1, has a place that the net lacks or isn't disjoint
+    /// from that of an earlier line.
+    RejectedPending(u64),
     /// The bytes behind the document are no firing list, by this line, counted from 1.
     MalformedFiring(u64),
     /// The transition of this member of the firing list, counted from 0, isn't enabled: the place of this id
@@ -68,6 +73,8 @@ pub fn status(refusal: &Refusal) -> u8
         Refusal::Excess(excess) => status_of_excess(excess),
         Refusal::Malformed(_)
         | Refusal::Rejected(_)
+        | Refusal::MalformedPending(_)
+        | Refusal::RejectedPending(_)
         | Refusal::MalformedFiring(_)
         | Refusal::RejectedFiring(..) => 1,
         Refusal::TooLong => 7,

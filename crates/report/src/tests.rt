@@ -225,13 +225,15 @@ enum Refused {
     NoNet(u32),
     Malformed(u64),
     Rejected(u64),
+    MalformedPending(u64),
+    RejectedPending(u64),
     MalformedFiring(u64),
     RejectedFiring(usize),
     WideMarking(usize),
     TooLong,
 }
 
-const LINES: [(Refused, u8, &str); 15] = [
+const LINES: [(Refused, u8, &str); 17] = [
     (
         Refused::Usage,
         2,
@@ -264,6 +266,16 @@ const LINES: [(Refused, u8, &str); 15] = [
         "certificate rejected at line 1000004\n",
     ),
     (
+        Refused::MalformedPending(2),
+        1,
+        "pending malformed at line 2\n",
+    ),
+    (
+        Refused::RejectedPending(3),
+        1,
+        "pending rejected at line 3\n",
+    ),
+    (
         Refused::MalformedFiring(2),
         1,
         "firing list malformed at line 2\n",
@@ -291,6 +303,8 @@ fn refusal(alloc: Global, refused: Refused) -> Result<Refusal, NoMemory> {
         Refused::NoNet(number) => Refusal::Rule(number, FlatFault::NoNet(2)),
         Refused::Malformed(number) => Refusal::Malformed(number),
         Refused::Rejected(number) => Refusal::Rejected(number),
+        Refused::MalformedPending(number) => Refusal::MalformedPending(number),
+        Refused::RejectedPending(number) => Refusal::RejectedPending(number),
         Refused::MalformedFiring(number) => Refusal::MalformedFiring(number),
         Refused::RejectedFiring(member) => Refusal::RejectedFiring(member, id),
         Refused::WideMarking(member) => Refusal::Excess(Excess::WideMarking(member, id)),

@@ -38,6 +38,7 @@ use Rattle.certificates.specs.Conditions.{IsAccepted, LineHolds}
 use Rattle.certificates.proofs.OneReading.{one_reading}
 use Rattle.struct_core.proofs.Orders.{one_order, in_range}
 use Rattle.struct_core.proofs.FiringOutcomes.{replay_completes}
+use Rattle.struct_core.proofs.Resumptions.{resume_completes}
 use Rattle.struct_core.specs.SubSemiflows.{SubOutcome, all_sub_semiflows, no_sub_semiflows}
 use Rattle.incidence.specs.Matrix.{extended_of}
 use Rattle.struct_core.proofs.TaskAnswers.{task_answers, sample_answers}
@@ -144,6 +145,8 @@ task_completes tasks.Verify budgets document net rest status text narrow few fin
     verify_completes (net_of net) rest status text fine.0 fine.1 fine.2 outcome
 task_completes tasks.Live budgets document net rest status text narrow few fine outcome = live_completes _ _ _ status text few outcome
 task_completes tasks.Sub budgets document net rest status text narrow few fine outcome = sub_completes _ _ _ _ status text narrow outcome
+task_completes tasks.Resume budgets document net rest status text narrow few fine outcome =
+    resume_completes document _ _ budgets.sets rest status text fine.0 fine.1 outcome
 task_completes tasks.Replay budgets document net rest status text narrow few fine outcome =
     replay_completes _ _ _ rest status text fine.0 fine.1 fine.2 outcome
 

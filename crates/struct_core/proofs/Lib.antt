@@ -25,6 +25,7 @@ pub mod Greatest
 pub mod Summing
 pub mod OneLiveness
 pub mod FiringOutcomes
+pub mod Resumptions
 pub mod SubOutcomes
 pub mod OneCertificate
 pub mod OneOutcome

@@ -24,7 +24,7 @@ use Rattle.struct_core.specs.declared.order.Order.{Order}
 use Rattle.struct_core.specs.declared.order.Order.TheVariants.{Run, Sample}
 use Rattle.report.specs.FaultLines.{document_line, rule_line, no_net_line}
 use Rattle.struct_core.specs.Outcome.{HasClass, Profile, TaskOutcome, Outcome, no_document, broken, no_net, answer, sample, sample_tasks, SampleOutcome, refused, goes_on, summary}
-use Rattle.struct_core.specs.Determined.{DifferInTree, IsSameText, HasOneOutcome}
+use Rattle.struct_core.specs.Determined.{DifferInRun, DifferInTree, IsSameText, HasOneOutcome}
 use Rattle.struct_core.specs.Inputs.{front_of, rest_of}
 use Rattle.page_flatten.specs.Flat.{Flat, IsNet, LacksNet}
 use Rattle.struct_core.specs.Words.{default_budgets, IsInRange}
@@ -36,6 +36,7 @@ use Rattle.struct_core.proofs.OneListing.{one_semiflow_outcome, one_set_outcome}
 use Rattle.struct_core.proofs.OneVerdict.{one_bound_outcome, one_commoner_outcome}
 use Rattle.struct_core.proofs.OneLiveness.{one_live_outcome}
 use Rattle.struct_core.proofs.FiringOutcomes.{one_replay_outcome}
+use Rattle.struct_core.proofs.Resumptions.{one_resume_outcome}
 use Rattle.struct_core.proofs.SubOutcomes.{one_sub_outcome}
 use Rattle.struct_core.proofs.OneCertificate.{one_cert_bound_outcome, one_cert_verdict_outcome, one_verify_outcome}
 use Rattle.siphon_branch.proofs.Limits.{few_not_many}
@@ -67,7 +68,13 @@ exactly same = (same.0, inl same.1)
 but_for_a_tree : {k : ℕ} {budgets : Budgets} {status other : ℕ} {text line : List ℕ} → (status ≡ other) × ((text ≡ line) ⊎ DifferInTree text line)
     → (status ≡ other) × IsSameText (Run tasks.CertCommoner k budgets) text line
 but_for_a_tree {k} {budgets} (same, inl text) = (same, inl text)
-but_for_a_tree {k} {budgets} (same, inr tree) = (same, inr ((k, budgets, refl), tree))
+but_for_a_tree {k} {budgets} (same, inr tree) = (same, inr (inl ((k, budgets, refl), tree)))
+
+-- or another run
+but_for_a_run : {k : ℕ} {budgets : Budgets} {status other : ℕ} {text line : List ℕ} → (status ≡ other) × ((text ≡ line) ⊎ DifferInRun text line)
+    → (status ≡ other) × IsSameText (Run tasks.Resume k budgets) text line
+but_for_a_run {k} {budgets} (same, inl text) = (same, inl text)
+but_for_a_run {k} {budgets} (same, inr run) = (same, inr (inr ((k, budgets, refl), run)))
 
 one_task_outcome : (task : Task) (k : ℕ) (budgets : Budgets) (document : Document) (net : NetLists) (rest : List ℕ) (status other : ℕ) (text line : List ℕ)
     → TaskOutcome task budgets document net rest status text → TaskOutcome task budgets document net rest other line
@@ -94,18 +101,21 @@ one_task_outcome tasks.Verify k budgets document net rest status other text line
     exactly (one_verify_outcome _ rest status other text line one another)
 one_task_outcome tasks.Live k budgets document net rest status other text line one another = exactly (one_live_outcome _ _ _ status other text line one another)
 one_task_outcome tasks.Sub k budgets document net rest status other text line one another = exactly (one_sub_outcome _ _ _ _ status other text line one another)
+one_task_outcome tasks.Resume k budgets document net rest status other text line one another =
+    but_for_a_run (one_resume_outcome document _ _ _ rest status other text line one another)
 one_task_outcome tasks.Replay k budgets document net rest status other text line one another =
     exactly (one_replay_outcome _ _ _ rest status other text line one another)
 
 -- ---- a sample
 
--- a task that makes no tree has one text
-not_a_tree : (task : Task) → task ≢ tasks.CertCommoner → {text line : List ℕ} → IsSameText (Run task 1 default_budgets) text line → text ≡ line
+-- a task that makes no tree and no run has one text
+not_a_tree : (task : Task) → (task ≢ tasks.CertCommoner) × (task ≢ tasks.Resume) → {text line : List ℕ} → IsSameText (Run task 1 default_budgets) text line → text ≡ line
 not_a_tree task plain (inl same) = same
-not_a_tree task plain (inr tree) = (let is = tree.0.2 in absurd (plain (cc)))
+not_a_tree task plain (inr (inl tree)) = (let is = tree.0.2 in absurd (plain.0 (cc)))
+not_a_tree task plain (inr (inr run)) = (let is = run.0.2 in absurd (plain.1 (cc)))
 
 abbrev MakeNoTree : List Task → Type 0
-MakeNoTree later = AllByRecursion (λ task. task ≢ tasks.CertCommoner) later
+MakeNoTree later = AllByRecursion (λ task. (task ≢ tasks.CertCommoner) × (task ≢ tasks.Resume)) later
 
 one_sample : (document : Document) (net : NetLists) (later : List Task) (status other : ℕ) (text line : List ℕ) → MakeNoTree later
     → SampleOutcome document net later status text → SampleOutcome document net later other line → (status ≡ other) × (text ≡ line)
@@ -122,7 +132,10 @@ one_sample document net _ _ _ _ _ plain (summary numbers is) (summary others als
     (refl, ap (λ (n : Summary). summary_text n) (one_summary (net_of net) net.arcs numbers others is also))
 
 sample_makes_none : MakeNoTree sample_tasks
-sample_makes_none = (λ is. cc, (λ is. cc, (λ is. cc, (λ is. cc, (λ is. cc, tt)))))
+sample_makes_none = (
+  (λ is. cc, λ is. cc),
+  ((λ is. cc, λ is. cc), ((λ is. cc, λ is. cc), ((λ is. cc, λ is. cc), ((λ is. cc, λ is. cc), tt)))),
+)
 
 -- ---- an order
 

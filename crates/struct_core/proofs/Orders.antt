@@ -6,7 +6,7 @@ use Rattle.std.proofs.lemmas.Option.{same_Some}
 use Rattle.struct_core.specs.declared.order.Task.{Task}
 use Rattle.net_values.specs.declared.limits.TheConstants.{MAX_NETS}
 use Rattle.struct_core.specs.declared.order.Budgets.{Budgets}
-use Rattle.struct_core.specs.declared.order.Setting.TheVariants.{Net}
+use Rattle.struct_core.specs.declared.order.Setting.TheVariants.{Net, Sets}
 use Rattle.struct_core.specs.declared.order.Order.{Order}
 use Rattle.struct_core.specs.declared.order.Order.TheVariants.{Run, Sample}
 use Rattle.struct_core.specs.Words.{task_words, tasks, task_named, most_rows, IsNumber, MeansSetting, by_default, by_option, MeanOptions, MeansTask, MeansSample, Means, IsInRange, HasOneMeaning}
@@ -42,8 +42,15 @@ net_in_range : (words : List (List ℕ)) (k : ℕ) → MeansSetting Net words k 
 net_in_range _ _ by_default = (omega arith, omega arith)
 net_in_range _ _ (by_option option word k named is) = (is.low, is.high)
 
+-- and a search may meet a siphon
+some_sets : (words : List (List ℕ)) (sets : ℕ) → MeansSetting Sets words sets → 1 ≤ sets
+some_sets _ _ by_default = omega arith
+some_sets _ _ (by_option option word number named is) = is.low
+
 pub in_range : (words : List (List ℕ)) (order : Order) → Means words order → IsInRange order
-in_range words (Run task k budgets) means = net_in_range means.said.front k means.said.net
+in_range words (Run task k budgets) means =
+    let net = net_in_range means.said.front k means.said.net in
+    (net.0, net.1, some_sets means.said.others.back budgets.sets means.said.others.sets)
 in_range words (Sample n) means = (means.number.low, means.number.high)
 
 -- a list of one word

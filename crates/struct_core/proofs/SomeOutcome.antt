@@ -39,6 +39,7 @@ use Rattle.struct_core.proofs.SomeBounds.{narrow_or_first_wide, all_kept, all_si
 use Rattle.struct_core.proofs.SomeVerdict.{verdict_of}
 use Rattle.struct_core.proofs.SomeLiveness.{some_liveness}
 use Rattle.struct_core.proofs.FiringOutcomes.{some_replay_outcome}
+use Rattle.struct_core.proofs.Resumptions.{some_resume_outcome}
 use Rattle.struct_core.proofs.SubOutcomes.{some_sub_outcome}
 use Rattle.struct_core.proofs.SomeFailure.{some_failure}
 use Rattle.struct_core.proofs.SomeCertificate.{some_cert_bounds, some_cert_verdict, some_verify, few_places}
@@ -122,6 +123,7 @@ some_task_outcome tasks.CertCommoner budgets document net rest limit decided =
 some_task_outcome tasks.Verify budgets document net rest limit decided = some_verify (net_of net) rest
 some_task_outcome tasks.Live budgets document net rest limit decided = some_liveness _ _ _ (few_or_many (net_of net) budgets.sets).siphons (verdict_of (net_of net))
 some_task_outcome tasks.Sub budgets document net rest limit decided = some_sub_outcome _ _ _ _ decided
+some_task_outcome tasks.Resume budgets document net rest limit decided = some_resume_outcome document _ _ _ rest decided
 some_task_outcome tasks.Replay budgets document net rest limit decided = some_replay_outcome _ _ _ rest
 
 -- ---- of an input
@@ -169,7 +171,8 @@ canon_answered k budgets document tree spelled rules chosen (inr fault) = absurd
 no_tree : {k : ℕ} {budgets : Budgets} {status other : ℕ} {text line : List ℕ} → (status ≡ other) × IsSameText (Run tasks.Canon k budgets) text line
     → (status ≡ other) × (text ≡ line)
 no_tree (same, inl text) = (same, text)
-no_tree (same, inr tree) = (let is = tree.0.2 in absurd (cc))
+no_tree (same, inr (inl tree)) = (let is = tree.0.2 in absurd (cc))
+no_tree (same, inr (inr run)) = (let is = run.0.2 in absurd (cc))
 
 pub canon_stays : CanonStays
 canon_stays k budgets document tree valued rules chosen =

@@ -23,6 +23,7 @@ use Rattle.struct_core.specs.declared.order.Order.TheVariants.{Run, Sample}
 use Rattle.struct_core.specs.Enumerations.{SemiflowOutcome, SetOutcome}
 use Rattle.struct_core.specs.Verdicts.{BoundOutcome, CommonerOutcome, LiveOutcome}
 use Rattle.struct_core.specs.Certificates.{CertBoundOutcome, CertVerdictOutcome, VerifyOutcome}
+use Rattle.struct_core.specs.Resuming.{ResumeOutcome}
 use Rattle.struct_core.specs.FiringLists.{ReplayOutcome}
 use Rattle.struct_core.specs.SubSemiflows.{SubOutcome}
 use Rattle.struct_core.specs.Inputs.{front_of, rest_of}
@@ -80,6 +81,8 @@ outcome_as tasks.Live budgets document one other rest status text same is =
     subst (λ (n : Named). LiveOutcome n.0 n.1 budgets.sets status text) (same_named one other same) is
 outcome_as tasks.Sub budgets document one other rest status text same is =
     subst (λ (n : Named). SubOutcome n.0 n.1 n.2 budgets.rows status text) (same_named one other same) is
+outcome_as tasks.Resume budgets document one other rest status text same is =
+    subst (λ (n : Named). ResumeOutcome document n.0 n.1 budgets.sets rest status text) (same_named one other same) is
 outcome_as tasks.Replay budgets document one other rest status text same is =
     subst (λ (n : Named). ReplayOutcome n.0 n.1 n.2 rest status text) (same_named one other same) is
 

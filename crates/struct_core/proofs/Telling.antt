@@ -5,7 +5,7 @@ use Rattle.page_flatten.specs.declared.fault.FlatFault.TheVariants as rules
 use Rattle.pnml_decode.specs.declared.fault.DocFault.TheVariants as documents
 use Rattle.pnml_source.specs.Writing.{IsWritten}
 use Rattle.report.specs.declared.refusal.Refusal.{Refusal}
-use Rattle.report.specs.declared.refusal.Refusal.TheVariants.{Usage, Document, Rule, Excess as Exceeds, Malformed, Rejected, MalformedFiring, RejectedFiring, TooLong, ReadFault, WriteFault, NoMemory}
+use Rattle.report.specs.declared.refusal.Refusal.TheVariants.{Usage, Document, Rule, Excess as Exceeds, Malformed, Rejected, MalformedPending, RejectedPending, MalformedFiring, RejectedFiring, TooLong, ReadFault, WriteFault, NoMemory}
 use Rattle.report.specs.declared.refusal.Excess.TheVariants.{WideSum, WideRow, WideBound, WideCheck, WideMarking, RowBudget, SetLimit}
 use Rattle.report.specs.Refusals.{status_of, line_of}
 use Rattle.struct_core.specs.Run.{Device, Ran, Says, HasRun}
@@ -32,6 +32,8 @@ fails (Exceeds (RowBudget budget id count)) is = absurd (omega (arith, is))
 fails (Exceeds (SetLimit limit)) is = absurd (omega (arith, is))
 fails (Malformed number) is = absurd (omega (arith, is))
 fails (Rejected number) is = absurd (omega (arith, is))
+fails (MalformedPending number) is = absurd (omega (arith, is))
+fails (RejectedPending number) is = absurd (omega (arith, is))
 fails (MalformedFiring number) is = absurd (omega (arith, is))
 fails (RejectedFiring member id) is = absurd (omega (arith, is))
 fails TooLong is = absurd (omega (arith, is))

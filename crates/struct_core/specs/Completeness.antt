@@ -1,6 +1,6 @@
 -- When a run is sure to write its text: no device fails, the document is in the profile, the numbers of its
--- elimination stay narrow, its search has few sets to meet, a certificate to be verified is accepted, and a list to be
--- replayed fires.
+-- elimination stay narrow, its search has few sets to meet, a certificate to be verified is accepted, a token to
+-- be resumed is read, and a list to be replayed fires.
 use Rattle.std.specs.Prelude.{◌≡◌, ◌⊎◌, ℕ, ◌-◌, ◌^◌, ◌≤◌, ◌<◌, List, Option, Some, length}
 use Rattle.std.specs.Io.KnownBytes.{Appends}
 use Rattle.net_values.specs.declared.document.Document.{Document}
@@ -29,6 +29,8 @@ use Rattle.struct_core.specs.declared.order.Budgets.{Budgets}
 use Rattle.struct_core.specs.declared.order.Order.{Order}
 use Rattle.struct_core.specs.declared.order.Order.TheVariants.{Run, Sample}
 use Rattle.free_choice_live.specs.Answers.{IsAsked}
+use Rattle.siphon_branch.specs.declared.branch.Branch.{Branch}
+use Rattle.branch_resume.specs.Pending.{ReadsPending}
 use Rattle.net_replay.specs.FiringLists.{ListsFirings}
 use Rattle.net_replay.specs.Replays.{FiresWithinRange}
 use Rattle.net_values.specs.Nodes.{transition_id}
@@ -85,9 +87,10 @@ IsFew tasks.Live budgets net = IsAsked (net_of net) → HasAtMostGrown (net_of n
 IsFew _ budgets net = Unit
 
 -- the bytes after the document are what the task asks for: for `verify` a certificate that the net accepts, for
--- `replay` a firing list that fires within range
+-- `resume` pending classes of the net, for `replay` a firing list that fires within range
 abbrev pub IsFollowed : Task → NetLists → List ℕ → Type 0
 IsFollowed tasks.Verify net rest = (certificate : Certificate) × Spells certificate rest × IsAccepted (net_of net) certificate
+IsFollowed tasks.Resume net rest = (classes : List Branch) × ReadsPending (net_of net).places rest classes
 IsFollowed tasks.Replay net rest =
     (ts : List ℕ) × ListsFirings (net_of net) (transition_id net) rest ts × FiresWithinRange (net_of net) ts
 IsFollowed _ net rest = Unit

@@ -1,5 +1,11 @@
 -- Whether an order has an outcome for an input, and whether it has one only.
 use Rattle.std.specs.Prelude.{◌≡◌, ◌⊎◌, ℕ, List, ◌++◌}
+use Rattle.net_values.specs.Net.{Net}
+use Rattle.siphon_branch.specs.declared.branch.Branch.{Branch}
+use Rattle.branch_resume.specs.declared.resumed.Resumed.{Resumed}
+use Rattle.branch_resume.specs.Pending.{ReadsPending, IsMalformedAt, IsRejectedAt}
+use Rattle.branch_resume.specs.Runs.{IsRun}
+use Rattle.branch_resume.specs.Texts.{resume_text}
 use Rattle.net_values.specs.declared.document.Document.{Document}
 use Rattle.net_values.specs.FlatNets.{NetLists, net_of}
 use Rattle.incidence.specs.Matrix.{Matrix, incidence_of, extended_of, transposed}
@@ -20,6 +26,7 @@ use Rattle.struct_core.specs.declared.order.Order.TheVariants.{Run, Sample}
 use Rattle.struct_core.specs.Enumerations.{AreListed}
 use Rattle.struct_core.specs.Inputs.{front_of}
 use Rattle.struct_core.specs.Outcome.{Outcome, Profile, sample_tasks}
+use Rattle.struct_core.specs.Resuming.{IsResumed}
 use Rattle.std.specs.List.{AllByRecursion}
 use Rattle.struct_core.specs.Words.{default_budgets, IsInRange}
 use Rattle.struct_core.specs.Sample.{sample_document}
@@ -36,11 +43,28 @@ pub record DifferInTree (text line : List ℕ) : Type 0 where
 abbrev pub AsksForATree : Order → Type 0
 AsksForATree order = (k : ℕ) × (budgets : Budgets) × (order ≡ Run tasks.CertCommoner k budgets)
 
--- the same text, or for that certificate another tree
-abbrev pub IsSameText : Order → List ℕ → List ℕ → Type 0
-IsSameText order text line = (text ≡ line) ⊎ (AsksForATree order × DifferInTree text line)
+-- two texts of `resume` for a document, by runs from the same classes
+pub record DifferInRun (text line : List ℕ) : Type 0 where
+  pub document : Document
+  pub ids : ℕ → List ℕ
+  pub net : Net
+  pub classes : List Branch
+  pub one : Resumed
+  pub other : Resumed
+  pub one_is : IsRun net classes one
+  pub other_is : IsRun net classes other
+  pub text_is : text ≡ resume_text document ids one
+  pub line_is : line ≡ resume_text document ids other
 
--- an order has at most one status for an input, and one text but for the tree of a certificate
+-- the order is for a run of a search
+abbrev pub AsksForARun : Order → Type 0
+AsksForARun order = (k : ℕ) × (budgets : Budgets) × (order ≡ Run tasks.Resume k budgets)
+
+-- the same text, or for that certificate another tree, or for `resume` another run
+abbrev pub IsSameText : Order → List ℕ → List ℕ → Type 0
+IsSameText order text line = (text ≡ line) ⊎ ((AsksForATree order × DifferInTree text line) ⊎ (AsksForARun order × DifferInRun text line))
+
+-- an order has at most one status for an input, and one text but for the tree of a certificate and the run of `resume`
 abbrev pub HasOneOutcome : Type 0
 HasOneOutcome =
     (order : Order) (input : List ℕ) (status other : ℕ) (text line : List ℕ) → Outcome order input status text → Outcome order input other line
@@ -52,16 +76,25 @@ IsEliminationDecided m budget =
     ((list : List (List ℕ)) × AreListed m budget list × ((y : ℕ → ℕ) → IsSemiflow m all_columns y → IsGenerated m list y))
     ⊎ ((fault : ElimFault) × IsFirstFail m budget fault)
 
--- what has to be decided for a task: nothing but the elimination
+-- any bytes stand for classes from which there is a run with so many leaves, or have a line that keeps them from being
+-- read
+abbrev pub IsResumeDecided : Net → ℕ → Type 0
+IsResumeDecided net leaves =
+    (bytes : List ℕ)
+    → ((classes : List Branch) × (run : Resumed) × ReadsPending net.places bytes classes × IsResumed net leaves classes run)
+    ⊎ (((line : ℕ) × IsMalformedAt bytes line) ⊎ ((line : ℕ) × IsRejectedAt net.places bytes line))
+
+-- what has to be decided for a task: nothing but the elimination, and the run of `resume`
 abbrev pub IsDecided : Task → Budgets → NetLists → Type 0
 IsDecided tasks.Places budgets net = IsEliminationDecided (incidence_of (net_of net)) budgets.rows
 IsDecided tasks.Transitions budgets net = IsEliminationDecided (transposed (incidence_of (net_of net))) budgets.rows
 IsDecided tasks.Bounds budgets net = IsEliminationDecided (incidence_of (net_of net)) budgets.rows
 IsDecided tasks.CertBounds budgets net = IsEliminationDecided (incidence_of (net_of net)) budgets.rows
 IsDecided tasks.Sub budgets net = IsEliminationDecided (extended_of (net_of net)) budgets.rows
+IsDecided tasks.Resume budgets net = IsResumeDecided (net_of net) budgets.sets
 IsDecided _ budgets net = Unit
 
--- of a task every input has an outcome, where the elimination of its net is decided
+-- of a task every input has an outcome, where what it needs is decided
 abbrev pub HasSomeTaskOutcome : Type 0
 HasSomeTaskOutcome =
     (task : Task) (k : ℕ) (budgets : Budgets) (input : List ℕ)

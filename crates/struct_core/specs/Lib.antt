@@ -6,6 +6,7 @@ pub mod Enumerations
 pub mod Verdicts
 pub mod Certificates
 pub mod FiringLists
+pub mod Resuming
 pub mod SubSemiflows
 pub mod Inputs
 pub mod Sample

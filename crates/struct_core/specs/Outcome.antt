@@ -32,6 +32,7 @@ use Rattle.struct_core.specs.Enumerations.{SemiflowOutcome, SetOutcome}
 use Rattle.struct_core.specs.Inputs.{front_of, rest_of}
 use Rattle.struct_core.specs.Verdicts.{BoundOutcome, CommonerOutcome, LiveOutcome}
 use Rattle.struct_core.specs.Certificates.{CertBoundOutcome, CertVerdictOutcome, VerifyOutcome}
+use Rattle.struct_core.specs.Resuming.{ResumeOutcome}
 use Rattle.struct_core.specs.FiringLists.{ReplayOutcome}
 use Rattle.struct_core.specs.SubSemiflows.{SubOutcome}
 
@@ -66,6 +67,7 @@ TaskOutcome tasks.CertCommoner budgets document net rest status text = CertVerdi
 TaskOutcome tasks.Verify budgets document net rest status text = VerifyOutcome (net_of net) rest status text
 TaskOutcome tasks.Live budgets document net rest status text = LiveOutcome (net_of net) (place_id net) budgets.sets status text
 TaskOutcome tasks.Sub budgets document net rest status text = SubOutcome (net_of net) (place_id net) (transition_id net) budgets.rows status text
+TaskOutcome tasks.Resume budgets document net rest status text = ResumeOutcome document (net_of net) (place_id net) budgets.sets rest status text
 TaskOutcome tasks.Replay budgets document net rest status text = ReplayOutcome (net_of net) (place_id net) (transition_id net) rest status text
 
 -- what `sample` computes of its net

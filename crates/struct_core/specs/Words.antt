@@ -3,7 +3,7 @@ use Rattle.std.specs.Prelude.{◌≡◌, ℕ, ◌≤◌, List, [], ◌∷◌, �
 use Rattle.net_values.specs.declared.limits.TheConstants.{MAX_NETS}
 use Rattle.pnml_grammar.specs.Elements.{kind_named}
 use Rattle.struct_core.specs.declared.order.Task.{Task}
-use Rattle.struct_core.specs.declared.order.Task.TheVariants.{Check, Canon, Class, Places, Transitions, Siphons, Traps, Bounds, Commoner, CertBounds, CertCommoner, Verify, Live, Sub, Replay}
+use Rattle.struct_core.specs.declared.order.Task.TheVariants.{Check, Canon, Class, Places, Transitions, Siphons, Traps, Bounds, Commoner, CertBounds, CertCommoner, Verify, Live, Sub, Resume, Replay}
 use Rattle.struct_core.specs.declared.order.Setting.{Setting}
 use Rattle.struct_core.specs.declared.order.Setting.TheVariants.{Net, Rows, Sets}
 use Rattle.struct_core.specs.declared.order.Order.{Order}
@@ -16,10 +16,10 @@ use Rattle.struct_core.specs.declared.order.Budgets.{Budgets}
 unfoldable pub task_words : List (List ℕ)
 task_words =
     codes "check" ∷ codes "canon" ∷ codes "class" ∷ codes "places" ∷ codes "transitions" ∷ codes "siphons" ∷ codes "traps"
-    ∷ codes "bounds" ∷ codes "commoner" ∷ codes "cert-bounds" ∷ codes "cert-commoner" ∷ codes "verify" ∷ codes "live" ∷ codes "sub" ∷ codes "replay" ∷ []
+    ∷ codes "bounds" ∷ codes "commoner" ∷ codes "cert-bounds" ∷ codes "cert-commoner" ∷ codes "verify" ∷ codes "live" ∷ codes "sub" ∷ codes "resume" ∷ codes "replay" ∷ []
 
 unfoldable pub tasks : List Task
-tasks = Check ∷ Canon ∷ Class ∷ Places ∷ Transitions ∷ Siphons ∷ Traps ∷ Bounds ∷ Commoner ∷ CertBounds ∷ CertCommoner ∷ Verify ∷ Live ∷ Sub ∷ Replay ∷ []
+tasks = Check ∷ Canon ∷ Class ∷ Places ∷ Transitions ∷ Siphons ∷ Traps ∷ Bounds ∷ Commoner ∷ CertBounds ∷ CertCommoner ∷ Verify ∷ Live ∷ Sub ∷ Resume ∷ Replay ∷ []
 
 -- the task that has the word
 unfoldable pub task_named : List ℕ → Option Task
@@ -107,9 +107,9 @@ abbrev pub Means : List (List ℕ) → Order → Type 0
 Means words (Run task k budgets) = MeansTask words task k budgets
 Means words (Sample n) = MeansSample words n
 
--- a document can have so many nets, and a sample net so many philosophers
+-- a document can have so many nets, a search may meet a siphon, and a sample net can have so many philosophers
 abbrev pub IsInRange : Order → Type 0
-IsInRange (Run task k budgets) = (1 ≤ k) × (k ≤ MAX_NETS)
+IsInRange (Run task k budgets) = (1 ≤ k) × (k ≤ MAX_NETS) × (1 ≤ budgets.sets)
 IsInRange (Sample n) = (2 ≤ n) × (n ≤ 200)
 
 -- a list of words has at most one meaning

@@ -11,6 +11,7 @@ use crate::inputs::split;
 use crate::order::{Budgets, Task};
 use crate::place_bounds::bound_report;
 use crate::replays::replay_report;
+use crate::resumes::resume_report;
 use crate::semiflows::semiflow_report;
 use crate::siphons::{siphon_report, trap_report};
 use crate::subs::sub_report;
@@ -32,7 +33,8 @@ pub(crate) fn answer(
     budgets: Budgets,
     bytes: &[u8],
 ) -> Result<Text, Refusal>
-    requires { 1 ≤ k }
+    requires net { 1 ≤ k }
+    requires sets { 1 ≤ budgets.sets }
     ensures text { IfOk result (Outcome (Ordered.Run task k budgets) bytes.now 0) }
     ensures refused { IfErr result (FailsWith (Outcome (Ordered.Run task k budgets) bytes.now)) }
 {
@@ -64,6 +66,7 @@ fn text_of(
     net: &FlatNet,
     rest: &[u8],
 ) -> Result<Text, Refusal>
+    requires { 1 ≤ budgets.sets }
     ensures text { IfOk result (TaskOutcome task budgets document.now net.now rest.now 0) }
     ensures refused { IfErr result (FailsWith (TaskOutcome task budgets document.now net.now rest.now)) }
 {
@@ -82,6 +85,7 @@ fn text_of(
         Task::Verify => verify_report(alloc, net, rest),
         Task::Live => live_report(alloc, net, budgets.sets),
         Task::Sub => sub_report(alloc, net, budgets.rows),
+        Task::Resume => resume_report(alloc, document, net, rest, budgets.sets),
         Task::Replay => replay_report(alloc, net, rest),
     }
 }

@@ -10,7 +10,7 @@ pub(crate) fn split(task: Task, bytes: &[u8]) -> (&[u8], &[u8])
     ensures rest { result.1.now ≡ rest_of task bytes.now }
 {
     match task {
-        Task::Verify | Task::Replay => split_line(bytes),
+        Task::Verify | Task::Resume | Task::Replay => split_line(bytes),
         _ => (bytes, &[]),
     }
 }

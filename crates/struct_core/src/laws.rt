@@ -53,19 +53,21 @@ pub fn canonical_text_stays()
 {}
 
 /// An order has at most one status for an input, and one text but for the tree of a certificate for Commoner's
-/// condition.
+/// condition and the run of `resume`.
 pub fn one_outcome()
     ensures { HasOneOutcome }
 {}
 
 /// Every input has an outcome; for the semiflows, the sub-semiflows, the bounds and their certificate, where it is decided
-/// that every step of the elimination passes or that one fails first.
+/// that every step of the elimination passes or that one fails first, and for `resume`, where it is decided which classes
+/// the bytes stand for and that there is a run from them.
 pub fn some_outcome()
     ensures { HasSomeOutcome }
 {}
 
 /// A run without faults, on a document of the profile whose chosen net stays within the limits of the task, for `verify`
-/// with a certificate that the net accepts, and for `replay` with a firing list that fires within range, writes the
+/// with a certificate that the net accepts, for `resume` with pending classes of the net, and for `replay` with a firing
+/// list that fires within range, writes the
 /// defined text, or memory was refused.
 pub fn quiet_runs_complete()
     ensures { QuietRunsComplete }

@@ -9,6 +9,7 @@ mod order;
 mod philosophers;
 mod place_bounds;
 mod replays;
+mod resumes;
 mod running;
 mod sample;
 mod semiflows;

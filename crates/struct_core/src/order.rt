@@ -36,11 +36,13 @@ pub enum Task {
     Live,
     /// The extremal sub-semiflows of places.
     Sub,
+    /// A run of the search for minimal siphons, from given classes.
+    Resume,
     /// What a firing list does to the net.
     Replay,
 }
 
-const TASK_ORDER: [Task; 15] = [
+const TASK_ORDER: [Task; 16] = [
     Task::Check,
     Task::Canon,
     Task::Class,
@@ -55,6 +57,7 @@ const TASK_ORDER: [Task; 15] = [
     Task::Verify,
     Task::Live,
     Task::Sub,
+    Task::Resume,
     Task::Replay,
 ];
 

@@ -4,7 +4,7 @@ ghost use Rattle.struct_core.specs.Words.{task_words as the_task_words, option_w
 use pnml_grammar::Names;
 
 /// The words of the tasks, in the order of [`Task`](crate::Task).
-pub const TASKS: Names<15> = Names {
+pub const TASKS: Names<16> = Names {
     names: [
         b"check",
         b"canon",
@@ -20,6 +20,7 @@ pub const TASKS: Names<15> = Names {
         b"verify",
         b"live",
         b"sub",
+        b"resume",
         b"replay",
     ],
 };
@@ -31,7 +32,7 @@ pub const OPTIONS: Names<3> = Names {
 
 /// The words of the tasks in table order.
 #[tactic(auto, unfolding(crate::specs::Words::task_words))]
-pub fn task_words() -> [&'static [u8]; 15]
+pub fn task_words() -> [&'static [u8]; 16]
     ensures { map (λ word. word.now) result ≡ the_task_words }
 {
     let Names { names } = TASKS;

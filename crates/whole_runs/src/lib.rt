@@ -25,6 +25,8 @@ mod options;
 #[cfg(test)]
 mod replays;
 #[cfg(test)]
+mod resumes;
+#[cfg(test)]
 mod semiflows;
 #[cfg(test)]
 mod several_nets;

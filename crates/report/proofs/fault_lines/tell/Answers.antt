@@ -19,5 +19,11 @@ returns-in-NoMemory g c = rw c.in-NoMemory.is c.write_all-in-NoMemory.ensures
 pub returns-in-Malformed : goal.returns-in-Malformed
 returns-in-Malformed g c = rw c.in-Malformed.is c.tell_line.ensures
 
+pub returns-in-MalformedPending : goal.returns-in-MalformedPending
+returns-in-MalformedPending g c = rw c.in-MalformedPending.is c.tell_line-in-MalformedPending.ensures
+
+pub returns-in-RejectedPending : goal.returns-in-RejectedPending
+returns-in-RejectedPending g c = rw c.in-RejectedPending.is c.tell_line-in-RejectedPending.ensures
+
 pub returns-in-MalformedFiring : goal.returns-in-MalformedFiring
 returns-in-MalformedFiring g c = rw c.in-MalformedFiring.is c.tell_line-in-MalformedFiring.ensures

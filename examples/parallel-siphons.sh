@@ -1,0 +1,53 @@
+#!/bin/sh
+# All minimal siphons of a net, by several processes at once.
+#
+#     examples/parallel-siphons.sh [PROCESSES [LEAVES]] < net.pnml
+#
+# A run of `pnmlstruct resume` meets at most LEAVES siphons and writes the classes in which the others are. Each class goes
+# into a file of its own, and each file into a run of its own, PROCESSES of them at once, until no class is left. The lists
+# of all runs are joined by sort; the last line is their number. No two runs find the same siphon, and none is lost: the
+# law `trees_of_runs_are_one_search`. PROGRAM names the program, if it isn't bin/pnmlstruct.
+set -eu
+
+here=$(cd "$(dirname "$0")/.." && pwd -P)
+export PROGRAM="${PROGRAM:-$here/bin/pnmlstruct}"
+
+# Goes on with the classes of one file: a file for each class that is left, and one for the siphons that were found.
+one_run() {
+    cat "$FOLDER/document" "$1" | "$PROGRAM" resume --sets "$LEAVES" > "$1.out" || exit 255
+    awk -v next_file="$FOLDER/next/$(basename "$1")" '
+        NR == 1 { next }
+        ended { if (ended++ > 1) print held; held = $0; next }
+        $0 == "end" { ended = 1; next }
+        $0 == "pending" { next }
+        { file = next_file "." ++n; printf "pending\n%s\nend\n", $0 > file; close(file) }
+    ' "$1.out" > "$FOLDER/found/$(basename "$1")"
+    rm "$1" "$1.out"
+}
+
+if [ "${1:-}" = --one ]; then
+    one_run "$2"
+    exit
+fi
+
+processes=${1:-4}
+export LEAVES="${2:-1000}"
+FOLDER=$(mktemp -d)
+export FOLDER
+trap 'rm -rf "$FOLDER"' EXIT
+mkdir "$FOLDER/now" "$FOLDER/next" "$FOLDER/found"
+"$PROGRAM" canon > "$FOLDER/document"
+: > "$FOLDER/now/0"
+
+while [ -n "$(ls "$FOLDER/now")" ]; do
+    if command -v parallel > /dev/null && parallel --version 2> /dev/null | grep -q GNU; then
+        find "$FOLDER/now" -type f | parallel -j "$processes" --halt now,fail=1 sh "$0" --one
+    else
+        find "$FOLDER/now" -type f | xargs -n 1 -P "$processes" sh "$0" --one
+    fi
+    rmdir "$FOLDER/now"
+    mv "$FOLDER/next" "$FOLDER/now"
+    mkdir "$FOLDER/next"
+done
+
+find "$FOLDER/found" -type f -exec cat {} + | LC_ALL=C sort | awk '{ print } END { print "siphons " NR }'
