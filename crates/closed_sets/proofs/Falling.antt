@@ -14,6 +14,7 @@ use Rattle.net_values.specs.declared.limits.TheConstants.{MAX_PLACES}
 use Rattle.net_values.specs.Columns.{Lists}
 use Rattle.net_values.specs.Net.{Net}
 use Rattle.net_values.specs.PlaceSets.{has}
+use Rattle.net_values.proofs.TokenCounts.{nowhere}
 use Rattle.closed_sets.specs.ClosedSets.{has_input_in, has_output_in, IsSiphon, IsWithin}
 use Rattle.closed_sets.specs.Growth.{is_open}
 use Rattle.closed_sets.specs.Passes.{members}
@@ -23,9 +24,6 @@ use Rattle.closed_sets.specs.Guards.{guards}
 use Rattle.closed_sets.specs.Falling.{Falls, Drops, HoldsGuarded, LosesGuarded, Closes, IsWaiting, HasRoom}
 use Rattle.closed_sets.proofs.Below.{none_from, pair_at, pair_from}
 use Rattle.closed_sets.proofs.Passes.{listed_weighs, weighs_listed, shrinks_not}
-
-abbrev pub nowhere : WeightedPlace
-nowhere = record { place = 0; weight = 0 }
 
 -- a member is below the size
 pub has_below : (s : List Bool) (p : ℕ) → IsTrue (has s p) → p < length s

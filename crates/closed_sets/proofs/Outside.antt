@@ -7,6 +7,15 @@ pub outside : ℕ → (ℕ → Bool) → ℕ
 outside zero A = 0
 outside (suc n) A = cond (A n) 0 1 + outside n A
 
+one_most : (b : Bool) → cond {A = ℕ} b 0 1 ≤ 1
+one_most true = omega arith
+one_most false = omega arith
+
+pub outside_most : (n : ℕ) (A : ℕ → Bool) → outside n A ≤ n
+unfolding outside
+outside_most zero A = omega arith
+outside_most (suc n) A = omega (arith, one_most (A n), outside_most n A)
+
 one_less : (b c : Bool) → (IsTrue b → IsTrue c) → cond {A = ℕ} c 0 1 ≤ cond {A = ℕ} b 0 1
 one_less true true h = omega arith
 one_less true false h = absurd (false≢true (h refl))

@@ -2,7 +2,6 @@ ghost use Rattle.std.specs.Prelude.{◌≡◌, ◌<◌, ◌↔◌, IsTrue, Match
 ghost use Rattle.net_values.specs.FlatNets.{net_of};
 ghost use Rattle.net_values.specs.PlaceSets.{has};
 ghost use Rattle.closed_sets.specs.ClosedSets.{IsFed, IsSiphon, IsTrap};
-ghost use Rattle.closed_sets.specs.Growth.{IsFirst, is_open};
 ghost use Rattle.closed_sets.specs.Kinds.{seen_as};
 
 use crate::kind::{Kind, meets};
@@ -22,21 +21,6 @@ pub fn is_trap(net: &FlatNet, set: &PlaceSet) -> bool
     ensures { IsTrue result ↔ IsTrap (net_of net.now) (has set.now) }
 {
     is_closed(Kind::Trap, net, set)
-}
-
-/// The lowest transition with an output place in the set and no input place in it. There is none exactly
-/// where the set is a siphon.
-pub fn first_open_transition(net: &FlatNet, set: &PlaceSet) -> Option<usize>
-    requires { length set.now ≡ (net_of net.now).places }
-    ensures { MatchOption result (IsSiphon (net_of net.now) (has set.now))
-        (IsFirst (net_of net.now).transitions (is_open (net_of net.now) (has set.now))) }
-{
-    for t in 0..net.transitions() {
-        if Kind::Siphon.is_open(net, set, t) {
-            return Some(t);
-        }
-    }
-    None
 }
 
 /// Whether each place of the set is fed in it. Only the transitions with an output place in the set are

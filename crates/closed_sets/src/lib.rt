@@ -15,7 +15,7 @@ mod propagate;
 #[cfg(test)]
 mod tests;
 
-pub use closed::{first_open_transition, is_siphon, is_trap};
+pub use closed::{is_siphon, is_trap};
 pub use fallen::Fallen;
 pub use greatest::{greatest_siphon, greatest_siphon_without, greatest_trap, keeps_without};
 pub use laws::{

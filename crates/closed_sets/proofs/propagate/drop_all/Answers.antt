@@ -1,8 +1,9 @@
 -- At each entry the place is taken out where it is in the set and not guarded.
 use Rattle.std.proofs.Common.{◌≡◌, ◌<◌, ℕ, false, IsTrue, get_or, length, rules, arith}
 use Rattle.net_values.specs.PlaceSets.{has}
+use Rattle.net_values.proofs.TokenCounts.{nowhere}
 use Rattle.closed_sets.specs.Guards.{guards}
-use Rattle.closed_sets.proofs.Falling.{nowhere, drops_none, drops_more}
+use Rattle.closed_sets.proofs.Falling.{drops_none, drops_more}
 use Rattle.closed_sets.proofs.propagate.drop_all.Goals as goal
 
 pub loop-entry-init : goal.loop-entry-init
