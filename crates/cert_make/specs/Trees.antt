@@ -14,8 +14,8 @@ use Rattle.certificates.specs.WellFormed.{IsTreeLine, AreTrees}
 use Rattle.certificates.proofs.Trees.{AllHold}
 use Rattle.cert_make.specs.declared.tree.Tree.{Tree}
 
--- the lines lead from the classes to those that are left: they are followed by a tree for each of these, whichever
--- it is, and then are trees for the classes themselves
+-- the lines lead from the classes to those that are left: whichever trees for the latter follow, all the lines together
+-- are trees for the classes
 pub record LeadsTo (net : Net) (classes : List SiphonClass) (lines : List TreeLine) (left : List SiphonClass) : Type 0 where
   pub within : All IsTreeLine lines
   pub count : (rest : List TreeLine) → AreTrees rest (length left) → AreTrees (lines ++ rest) (length classes)
