@@ -55,8 +55,7 @@ module _ (document : Document) (net : Net) (ids : ℕ → List ℕ) (leaves : �
   one_resume_outcome _ _ _ _ (resumed classes run read is) (malformed_token another bad) = absurd ((one_reading net.places bytes).read_or_malformed classes another read bad)
   one_resume_outcome _ _ _ _ (resumed classes run read is) (rejected_token another refused) = absurd ((one_reading net.places bytes).read_or_rejected classes another read refused)
   one_resume_outcome _ _ _ _ (resumed classes one read is) (resumed others other also goes) =
-      let same : others ≡ classes = (one_reading net.places bytes).classes others classes also read in
-      (
+      let same : others ≡ classes = (one_reading net.places bytes).classes others classes also read in (
         refl,
         inr record {
           document = document;
