@@ -1,11 +1,11 @@
-mod Places
-mod PlaceTexts
-mod Words
-mod ClassLines
-mod TokenLines
-mod Runs
-mod Whole
-mod Resuming
-mod Apart
-mod Fronts
-mod Unique
+pub mod Places
+pub mod PlaceTexts
+pub mod Words
+pub mod ClassLines
+pub mod TokenLines
+pub mod Runs
+pub mod Whole
+pub mod Resuming
+pub mod Apart
+pub mod Fronts
+pub mod Unique
