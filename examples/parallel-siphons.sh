@@ -15,13 +15,14 @@ export PROGRAM="${PROGRAM:-$here/bin/pnmlstruct}"
 # Goes on with the classes of one file: a file for each class that is left, and one for the siphons that were found.
 one_run() {
     cat "$FOLDER/document" "$1" | "$PROGRAM" resume --sets "$LEAVES" > "$1.out" || exit 255
-    awk -v next_file="$FOLDER/next/$(basename "$1")" '
+    list=$(mktemp "$FOLDER/found/XXXXXXXX") # its name is that of no other run
+    awk -v next_file="$FOLDER/next/$(basename "$list")" '
         NR == 1 { next }
         ended { if (ended++ > 1) print held; held = $0; next }
         $0 == "end" { ended = 1; next }
         $0 == "pending" { next }
         { file = next_file "." ++n; printf "pending\n%s\nend\n", $0 > file; close(file) }
-    ' "$1.out" > "$FOLDER/found/$(basename "$1")"
+    ' "$1.out" > "$list"
     rm "$1" "$1.out"
 }
 
