@@ -179,11 +179,11 @@ def layers(n):
     has one place of each layer: there are 2^n of them, and as many grown ones."""
     net = Net()
     for i in range(n):
-        net.place("a%d" % i, 1)
-        net.place("b%d" % i)
+        net.place("left%d" % i, 1)
+        net.place("right%d" % i)
     for i in range(n):
-        for side in "ab":
-            net.transition("%st%d" % (side, i), ["a%d" % i, "b%d" % i], ["%s%d" % (side, (i + 1) % n)])
+        for side in ("left", "right"):
+            net.transition("to_%s%d" % (side, i), ["left%d" % i, "right%d" % i], ["%s%d" % (side, (i + 1) % n)])
     return net
 
 
