@@ -6,15 +6,17 @@
 # A run of `pnmlstruct resume` meets at most LEAVES siphons and writes the classes in which the others are. Each class goes
 # into a file of its own, and each file into a run of its own, PROCESSES of them at once, until no class is left. The lists
 # of all runs are joined by sort; the last line is their number. No two runs find the same siphon, and none is lost: the
-# law `trees_of_runs_are_one_search`. PROGRAM names the program, if it isn't bin/pnmlstruct.
+# law `trees_of_runs_are_one_search`. PROGRAM names the program, if it isn't bin/pnmlstruct, and NET the number of the net
+# in the document, if it isn't 1.
 set -eu
 
 here=$(cd "$(dirname "$0")/.." && pwd -P)
 export PROGRAM="${PROGRAM:-$here/bin/pnmlstruct}"
+export NET="${NET:-1}"
 
 # Goes on with the classes of one file: a file for each class that is left, and one for the siphons that were found.
 one_run() {
-    cat "$FOLDER/document" "$1" | "$PROGRAM" resume --sets "$LEAVES" > "$1.out" || exit 255
+    cat "$FOLDER/document" "$1" | "$PROGRAM" resume --net "$NET" --sets "$LEAVES" > "$1.out" || exit 255
     list=$(mktemp "$FOLDER/found/XXXXXXXX") # its name is that of no other run
     awk -v next_file="$FOLDER/next/$(basename "$list")" '
         NR == 1 { next }
