@@ -1,9 +1,10 @@
 #!/usr/bin/env python3
 """Refuses memory to the program, one request after the other, and looks at what it answers.
 
-    bench/refusals.py [PROGRAM]
+    bench/refusals.py [--each] [PROGRAM]
 
-PROGRAM is the built program, else crates/pnmlstruct/out/pnmlstruct. Each task is run on a small net once for each
+PROGRAM is the built program, else crates/pnmlstruct/out/pnmlstruct. With `--each` a line tells the status of each run
+and whether it wrote anything. Each task is run on a small net once for each
 request N that it makes: with request N refused, and with N and all after it refused. A run must end with status 10,
 nothing on standard output and one line on standard error, or with the whole answer that it gives where nothing is refused.
 Then a document of 60 MB is read under limits on the address space, from 8 MB up, with the same two outcomes.
@@ -71,7 +72,7 @@ def is_right(outcome, whole):
     return (status, out, err) == whole[:3]
 
 
-def in_turn(program, library, words, document, wrong):
+def in_turn(program, library, words, document, wrong, each):
     """Refuses each request in turn, alone and with all after it. Gives the number of requests and of answers."""
     whole = ran(program, words, document)
     answers = 0
@@ -81,6 +82,9 @@ def in_turn(program, library, words, document, wrong):
             outcome = ran(program, words, document, dict(on, LD_PRELOAD=library, REFUSE_AT=str(number)))
             if not outcome[3]:
                 break
+            if each:
+                print("%s, request %d%s: status %d, %s" % (
+                    " ".join(words), number, " and on" if on else "", outcome[0], "an answer" if outcome[1] else "nothing written"))
             if not is_right(outcome, whole):
                 wrong.append("%s, request %d: %r" % (" ".join(words), number, outcome[:3]))
             answers += outcome[0] != OUT_OF_MEMORY
@@ -120,14 +124,16 @@ def under_limits(program, wrong):
 
 
 def main():
-    program = os.path.abspath(sys.argv[1]) if len(sys.argv) > 1 else os.path.join(ROOT, "crates/pnmlstruct/out/pnmlstruct")
+    each = sys.argv[1:2] == ["--each"]
+    named = sys.argv[2:] if each else sys.argv[1:]
+    program = os.path.abspath(named[0]) if named else os.path.join(ROOT, "crates/pnmlstruct/out/pnmlstruct")
     wrong = []
     refusals = 0
     with tempfile.TemporaryDirectory() as folder:
         library = os.path.join(folder, "refuse.so")
         subprocess.run(["cc", "-O2", "-shared", "-fPIC", "-o", library, os.path.join(HERE, "refuse.c"), "-ldl"], check=True)
         for words, document in small_runs(program):
-            requests, answers = in_turn(program, library, words, document, wrong)
+            requests, answers = in_turn(program, library, words, document, wrong, each)
             refusals += 2 * requests
             print("%-16s %5d requests refused, each alone and each with all after it: %d whole answers" % (" ".join(words), requests, answers))
     size, tried, answers = under_limits(program, wrong)
