@@ -124,8 +124,8 @@ fn tag(alloc: Global, id: u32) -> Result<Vec<u8>, NoMemory> {
 /// One net, and so many more.
 fn nets(alloc: Global, more: u32) -> Result<Vec<u8>, NoMemory> {
     let mut bytes = joined(alloc, &[HEAD, b"</net>"])?;
-    for id in 1..more + 1 {
-        bytes.extend_from_slice(tag(alloc, id)?.as_slice())?;
+    for before in 0..more {
+        bytes.extend_from_slice(tag(alloc, before + 1)?.as_slice())?;
     }
     bytes.extend_from_slice(b"</pnml>")?;
     Ok(bytes)
