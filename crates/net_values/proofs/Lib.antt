@@ -14,3 +14,5 @@ pub mod PlaceWords
 pub mod PlaceFlips
 pub mod PlaceOrder
 pub mod Supports
+pub mod Walks
+pub mod Divided

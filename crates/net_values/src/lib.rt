@@ -22,6 +22,7 @@ mod tests;
 mod text;
 mod token_game;
 mod vector;
+mod walk;
 
 pub use alike::{AlikeList, Listed};
 pub use column::WeightedPlace;
@@ -44,3 +45,4 @@ pub use place_set::{PlaceSet, Sets};
 pub use text::Text;
 pub use token_game::FireFault;
 pub use vector::{Rows, Vector};
+pub use walk::Walk;

@@ -153,6 +153,30 @@ fn rows_are_sorted_and_cut(rt: HostRuntime) -> Result<(), Fail> {
 }
 
 #[test]
+fn positive_entries_are_numbered_across_words(rt: HostRuntime) -> Result<(), Fail> {
+    let alloc = rt.alloc();
+    let mut vector = Vector::zeros(alloc, 130)?;
+    for (position, value) in [(128, 5), (63, 7), (64, 9), (63, 0)] {
+        assert!(rt; position < vector.len() && value >= 0);
+        vector.set(position, value);
+    }
+    assert_eq!(rt; vector.positives(), 2);
+    assert!(rt; vector.positives() > 1);
+    assert_eq!(rt;
+        (vector.positive(0), vector.positive(1)),
+        ((64, 9), (128, 5))
+    );
+    let mut walk = vector.walk();
+    assert_eq!(rt;
+        (walk.next(), walk.next(), walk.next()),
+        (Some((64, 9)), Some((128, 5)), None)
+    );
+    vector.clear();
+    assert_eq!(rt; vector.positives(), 0);
+    Ok(())
+}
+
+#[test]
 fn sets_are_sorted_and_cut(rt: HostRuntime) -> Result<(), Fail> {
     let alloc = rt.alloc();
     let mut sets = Sets::new(alloc);

@@ -1,16 +1,17 @@
-ghost use Rattle.std.specs.Prelude.{◌≡◌, ◌<◌, ◌≤◌, ◌^◌, ◌≤ℤ◌, IfOk, pos};
-ghost use Rattle.std.specs.Prelude.{length, replicate, slice_index, slice_set};
+ghost use Rattle.std.specs.Prelude.{◌≡◌, ℕ, ◌/◌, ◌<◌, ◌≤◌, ◌^◌, ◌≤ℤ◌, IfOk, pos};
+ghost use Rattle.std.specs.Prelude.{length, map, replicate, slice_index, slice_set};
 ghost use Rattle.std.proofs.Common.{rules};
 ghost use Rattle.std.specs.Cmp.{partial_order_from_own_ties};
 ghost use Rattle.std.specs.Cmp.Lexicographic.{slice_cmp};
 ghost use Rattle.std.specs.Cmp.Rules.{comparing};
 ghost use Rattle.std.specs.Ordering.{is_eq, as_partial_cmp, nat_cmp};
-ghost use Rattle.net_values.specs.Vectors.{IsVector, positive_part, support_of};
+ghost use Rattle.net_values.specs.Vectors.{AreZerosFrom, IsPositive, IsVector, positive_count, positive_part, support_of};
 
 use crate::alike::{AlikeList, Listed};
 use crate::limits::MAX_ENTRIES;
 use crate::no_memory::NoMemory;
 use crate::place_set::PlaceSet;
+use crate::walk::Walk;
 use std::alloc::Global;
 use std::cmp::Ordering;
 use std::marker::Model;
@@ -88,7 +89,16 @@ impl Vector {
         ensures value { result ≡ pos (slice_index self.now i) }
         ensures bound { slice_index self.now i < 2 ^ 127 }
     {
-        self.entries[i] as i128
+        self.entry_at(i) as i128
+    }
+
+    /// Entry `i`, counted from 0, as a number without a sign.
+    pub fn entry_at(&self, i: usize) -> u128
+        requires { i < length self.now }
+        ensures value { result ≡ slice_index self.now i }
+        ensures bound { result < 2 ^ 127 }
+    {
+        self.entries[i]
     }
 
     /// Lends the set of the positions with a positive entry.
@@ -98,12 +108,80 @@ impl Vector {
         &self.support
     }
 
+    /// Goes over the positive entries in ascending position.
+    pub fn walk(&self) -> Walk<'_>
+        ensures start { result ≡ record { entries = self.now; from = 0 } }
+        ensures vector { IsVector self.now }
+    {
+        Walk::over(self.entries.as_slice(), &self.support)
+    }
+
+    /// The number of positive entries.
+    pub fn positives(&self) -> usize
+        ensures { result ≡ positive_count self.now }
+    {
+        let mut walk = self.walk();
+        let mut count = 0;
+        'entries: while let Some(_) = walk.next() {
+            count += 1;
+        }
+        count
+    }
+
+    /// The position and the entry of the positive entry number `k` in ascending position, counted from 0.
+    pub fn positive(&self, k: usize) -> (usize, i128)
+        requires { k < positive_count self.now }
+        ensures position { IsPositive self.now k result.0 }
+        ensures entry { result.1 ≡ pos (slice_index self.now result.0) }
+    {
+        let mut walk = self.walk();
+        for number in 0..k {
+            let _passed = walk.next();
+        }
+        match walk.next() {
+            Some((position, entry)) => (position, entry as i128),
+            None => unreachable!(),
+        }
+    }
+
     /// The entries in order, each at most 2^127 - 1.
     pub fn as_slice(&self) -> &[u128]
         ensures value { result.now ≡ self.now }
         ensures bound { IsVector self.now }
     {
         self.entries.as_slice()
+    }
+
+    /// Puts a positive entry, at most 2^127 - 1, behind all that are positive.
+    pub fn append(&mut self, i: usize, entry: u128)
+        requires within { i < length self.old }
+        requires positive { 0 < entry }
+        requires narrow { entry < 2 ^ 127 }
+        requires behind { AreZerosFrom self.old i }
+        ensures { self.new ≡ slice_set self.old i entry }
+    {
+        self.entries[i] = entry;
+        self.support.insert(i);
+    }
+
+    /// Divides each entry by a number that no positive one is below.
+    pub fn divide(&mut self, divisor: u128)
+        requires positive { 0 < divisor }
+        requires least { (i : ℕ) → 0 < slice_index self.old i → divisor ≤ slice_index self.old i }
+        ensures { self.new ≡ map (λ entry. entry / divisor) self.old }
+    {
+        if divisor > 1 {
+            divide_all(self.entries.as_mut_slice(), divisor);
+        }
+    }
+
+    /// Makes every entry 0.
+    pub fn clear(&mut self)
+        ensures { self.new ≡ replicate (length self.old) 0 }
+    {
+        for i in 0..self.len() {
+            self.set(i, 0);
+        }
     }
 
     /// Puts a value, which isn't negative, in the place of entry `i`.
@@ -118,6 +196,16 @@ impl Vector {
         } else {
             self.support.remove(i);
         }
+    }
+}
+
+/// Divides each number.
+fn divide_all(numbers: &mut [u128], divisor: u128)
+    requires { 0 < divisor }
+    ensures { numbers.new ≡ map (λ number. number / divisor) numbers.old }
+{
+    for number in numbers.iter_mut() {
+        *number /= divisor;
     }
 }
 
