@@ -19,19 +19,26 @@ SIZE = 60_000_000
 EXPAT = "import sys, xml.parsers.expat as e; e.ParserCreate().ParseFile(sys.stdin.buffer)"
 
 
-def filled(unit, front="", rear=""):
-    """A document with the unit as often in each node and arc as gives its size."""
+def filled(unit, front="", rear="", share=1):
+    """A document with the unit as often in each node and arc as gives its size, or one in so many of its nodes and arcs."""
     nodes = 2 * MOST_NODES + MOST_ARCS
     bare = len(largest("").document()) // nodes
     times = max(1, (SIZE // nodes - bare - len(front) - len(rear) - 20) // len(unit))
-    return largest(front + unit * times + rear).document()
+    return largest(front + unit * times + rear, share).document()
 
 
 POSITION = '\n      <position x="120.5" y="-34.25"/>'
 PART = '\n      <property key="shape" kind="box"> 12.5 &lt; x </property><!-- drawn --><line/>'
+
+
+def drawn(share=1):
+    """A document that is mostly positions."""
+    return filled(POSITION, "\n    <graphics>", "</graphics>", share)
+
+
 DOCUMENTS = {
     "plain": lambda: largest("").document(),
-    "graphics": lambda: filled(POSITION, "\n    <graphics>", "</graphics>"),
+    "graphics": drawn,
     "tools": lambda: filled(PART, '<toolspecific tool="editor" version="1.0">', "</toolspecific>"),
     "names": lambda: filled("station \u00e9 &amp; buffer ", "<name><text>", "</text></name>"),
 }

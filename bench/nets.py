@@ -294,11 +294,12 @@ def blocks(width):
     return net
 
 
-def largest(inner):
-    """The most places, transitions and arcs, each with this element in it."""
+def largest(inner, share=1):
+    """The most places, transitions and arcs, or of each one in so many, with this element in each of them."""
     net = Net(inner)
-    for i in range(MOST_NODES):
+    nodes, arcs = MOST_NODES // share, MOST_ARCS // share
+    for i in range(nodes):
         net.place("p%d" % i, i + 1)
-    net.transitions = ["t%d" % i for i in range(MOST_NODES)]
-    net.arcs = [("p%d" % (i % MOST_NODES), "t%d" % (i * 7 % MOST_NODES), i + 2) for i in range(MOST_ARCS)]
+    net.transitions = ["t%d" % i for i in range(nodes)]
+    net.arcs = [("p%d" % (i % nodes), "t%d" % (i * 7 % nodes), i + 2) for i in range(arcs)]
     return net

@@ -1,13 +1,14 @@
 #!/usr/bin/env python3
 """Measures time against size, beside other programs, and draws it: docs/performance.md and the plots beside it.
 
-    bench/plots.py [--runs N] [--quick] [--out FOLDER] [NAME=PROGRAM ..]
+    bench/plots.py [--runs N] [--quick] [--out FOLDER] [NAME[@TASK]=PROGRAM ..]
 
-Each NAME=PROGRAM is another program that takes the same task as its word and the document on standard input. xmllint, 4ti2
-(4ti2-rays or rays) and gringo with clasp are taken where they are installed. What is missing is left out. A point is the
-least processor time of N runs (by default 3) of all programs in turns; 4ti2 and clasp run once. A program that takes over 20
-seconds at a size isn't tried at larger ones. With --quick there are only the smallest sizes. The plots are SVG of gnuplot,
-both axes logarithmic. FOLDER is docs/, unless another is given.
+Each PROGRAM is another program that takes the same task as its word and the document on standard input; with @TASK it is
+taken for that task only. Python's expat, and xmllint, 4ti2 (4ti2-rays or rays) and gringo with clasp where they are
+installed, are taken too. What is missing is left out. A point is the least processor time of N runs (by default 3) of all
+programs in turns; 4ti2 and clasp run once. A program that takes over 20 seconds at a size isn't tried at larger ones. With
+--quick there are only the smallest sizes. The plots are SVG of gnuplot, both axes logarithmic. FOLDER is docs/, unless
+another is given.
 """
 import argparse
 import datetime
@@ -15,20 +16,42 @@ import os
 import platform
 import shutil
 import subprocess
+import sys
 import tempfile
 import threading
 
+import check
 import nets
 import tasks
 from measure import ROOT, built, load, written
 
 PATIENCE = tasks.PATIENCE
 PROGRAM = "pnmlstruct"
+
+
+class Member:
+    """A net of a family. Its size is what the horizontal axis tells."""
+
+    def __init__(self, net):
+        self.net = net
+        self.size = len(net.places) + len(net.transitions)
+        self.document = net.document
+
+
+class Drawn:
+    """A document that is mostly graphics, one in so many of the nodes and arcs of the largest; its size in megabytes."""
+
+    def __init__(self, share):
+        self.document = lambda: check.drawn(share)
+        self.size = round(check.SIZE / share / 1e6, 2)
+
+
 FAMILIES = {
-    "philosophers": [nets.philosophers(n) for n in (5, 10, 20, 50, 100, 200)],
-    "manufacturing": [nets.manufacturing(n) for n in (2, 5, 10, 20, 40)],
-    "producer chain": [nets.producer_chain(n) for n in (5, 10, 20, 50, 100, 200)],
+    "philosophers": [Member(nets.philosophers(n)) for n in (5, 10, 20, 50, 100, 200)],
+    "manufacturing": [Member(nets.manufacturing(n)) for n in (2, 5, 10, 20, 40)],
+    "producer chain": [Member(nets.producer_chain(n)) for n in (5, 10, 20, 50, 100, 200)],
 }
+DOCUMENTS = {"documents with graphics": [Drawn(share) for share in (256, 64, 16, 4, 1)]}
 TITLES = {
     "check": "Reading and checking a document",
     "places": "Minimal semiflows of places",
@@ -44,9 +67,9 @@ class OneShot:
         self.name = name
         self.solve = solve
 
-    def seconds(self, net, task, _path):
+    def seconds(self, member, task, _path):
         with tempfile.TemporaryDirectory() as folder:
-            return self.solve(net, task, folder)[1]
+            return self.solve(member.net, task, folder)[1]
 
 
 class Reader:
@@ -56,7 +79,7 @@ class Reader:
         self.name = name
         self.command = command
 
-    def seconds(self, _net, task, path):
+    def seconds(self, _member, task, path):
         """The processor time of a run, or nothing where it takes too long or ends with another status than 0."""
         words = [task if word == "TASK" else word for word in self.command]
         with open(path, "rb") as source:
@@ -71,7 +94,10 @@ class Reader:
 
 def programs(task, peers):
     """This program, and the others that answer the task."""
-    found = [Reader(PROGRAM, [built(), "TASK"])] + [Reader(name, [path, "TASK"]) for name, path in peers]
+    found = [Reader(PROGRAM, [built(), "TASK"])]
+    found += [Reader(name, [path, "TASK"]) for name, only, path in peers if only in ("", task)]
+    if task == "check":
+        found.append(Reader("expat", [sys.executable, "-c", check.EXPAT]))
     if task == "check" and shutil.which("xmllint"):
         found.append(Reader("xmllint", ["xmllint", "--stream", "--noout", "-"]))
     if task == "places" and tasks.RAYS:
@@ -81,29 +107,29 @@ def programs(task, peers):
     return found
 
 
-def measured(found, net, task, runs):
-    """The least time of each program on a net, the runs of all in turns."""
+def measured(found, member, task, runs):
+    """The least time of each program on a member of a family, the runs of all in turns."""
     least = {}
-    with written(net.document) as file:
+    with written(member.document) as file:
         for turn in range(runs):
             for program in found:
                 if turn and (isinstance(program, OneShot) or least[program.name] is None):
                     continue
-                seconds = program.seconds(net, task, file.name)
+                seconds = program.seconds(member, task, file.name)
                 known = least.get(program.name)
                 least[program.name] = seconds if known is None or seconds is None else min(known, seconds)
     return least
 
 
 def curves(task, members, peers, runs):
-    """For each program its points: the net's nodes and the seconds."""
+    """For each program its points: the size and the seconds."""
     found = programs(task, peers)
     points = {program.name: [] for program in found}
-    for net in members:
-        least = measured(found, net, task, runs)
+    for member in members:
+        least = measured(found, member, task, runs)
         for name, seconds in least.items():
             if seconds is not None:
-                points[name].append((len(net.places) + len(net.transitions), max(seconds, 1e-4)))
+                points[name].append((member.size, max(seconds, 1e-4)))
         found = [program for program in found if least[program.name] is not None]
     return points
 
@@ -111,12 +137,12 @@ def curves(task, members, peers, runs):
 def draw(task, panels, path):
     """One SVG with a panel for each family."""
     lines = [
-        "set terminal svg size %d,380 dynamic font 'sans,12' background 'white'" % (360 * len(panels)),
+        "set terminal svg size %d,380 dynamic font 'sans,12' background 'white' linewidth 1.5" % max(480, 360 * len(panels)),
         "set output '%s'" % path,
         "set multiplot layout 1,%d title \"%s\"" % (len(panels), TITLES[task]),
         "set logscale xy",
-        "set format y '10^{%L}'",
-        "set xlabel 'places and transitions'",
+        "set format xy '%g'",
+        "set xlabel '%s'" % size_name(task),
         "set ylabel 'seconds'",
         "set key left top",
         "set grid",
@@ -125,7 +151,7 @@ def draw(task, panels, path):
         drawn = {name: pairs for name, pairs in points.items() if pairs}
         lines.append("set title '%s'" % family)
         for i, pairs in enumerate(drawn.values()):
-            lines += ["$data%d << EOD" % i] + ["%d %.6f" % pair for pair in pairs] + ["EOD"]
+            lines += ["$data%d << EOD" % i] + ["%g %.6f" % pair for pair in pairs] + ["EOD"]
         lines.append("plot " + ", ".join("$data%d with linespoints title '%s'" % (i, name) for i, name in enumerate(drawn)))
     lines.append("unset multiplot")
     subprocess.run(["gnuplot"], input="\n".join(lines) + "\n", text=True, check=True)
@@ -138,34 +164,46 @@ def machine():
     return "%s, %s, %s" % (models[0] if models else platform.machine(), load(), platform.platform())
 
 
-def table(panels):
+def table(task, panels):
     """The rows of a table: per family and size the seconds of each program."""
     names = list(dict.fromkeys(name for points in panels.values() for name in points))
-    rows = ["| family | nodes | " + " | ".join(names) + " |", "|---" * (len(names) + 2) + "|"]
+    rows = ["| family | %s | " % size_name(task) + " | ".join(names) + " |", "|---" * (len(names) + 2) + "|"]
     for family, points in panels.items():
         for size in sorted({size for pairs in points.values() for size, _ in pairs}):
             cells = ["%.4f" % dict(points[name])[size] if size in dict(points.get(name, [])) else "-" for name in names]
-            rows.append("| %s | %d | %s |" % (family, size, " | ".join(cells)))
+            rows.append("| %s | %g | %s |" % (family, size, " | ".join(cells)))
     return rows
 
 
-def page(results, folder, runs, peers):
+def size_name(task):
+    """What the horizontal axis of a task's plots tells."""
+    return "megabytes" if task == "check" else "places and transitions"
+
+
+def page(results, where, words, peers):
     """The page, which shows the plots and the numbers behind them."""
-    others = " ".join("%s=%s" % (name, os.path.basename(path)) for name, path in peers)
+    others = "".join(" %s%s=%s" % (name, "@" + only if only else "", os.path.basename(path)) for name, only, path in peers)
     lines = [
         "# Performance",
         "",
-        "Time against size, beside other programs, on %s. The machine: %s." % (datetime.date.today().isoformat(), machine()),
+        "Time against size, beside other programs, on %s. The machine before the run: %s." % (datetime.date.today().isoformat(), where),
         "",
-        "Made by `bench/plots.py --runs %d %s` in one run. A point is the least processor time, user and system, of" % (runs, others),
-        "these runs, taken in turns; 4ti2 and clasp ran once, timed in steps of 10 ms. Where a line ends early the program took over %d seconds at the" % PATIENCE,
-        "next size or failed there. Nothing is promised of times. `-` is a size that wasn't reached.",
-        "",
+        "Made by `bench/plots.py --runs %d%s` in one run. A point is the least processor time, user and system, of these" % (words.runs, others),
+        "runs, taken in turns; 4ti2 and clasp ran once, timed in steps of 10 ms, and expat has the start of Python in its time.",
+        "Where a line ends early the program took over %d seconds at the next size or failed there. Nothing is promised of" % PATIENCE,
+        "times. `-` is a size that wasn't reached.",
     ]
     for task, panels in results.items():
-        lines += ["## %s: `%s`" % (TITLES[task], task), "", "![%s](performance/%s.svg)" % (TITLES[task], task), ""] + table(panels) + [""]
-    with open(os.path.join(folder, "performance.md"), "w", encoding="utf-8") as out:
-        out.write("\n".join(lines))
+        lines += ["", "## %s: `%s`" % (TITLES[task], task), "", "![%s](performance/%s.svg)" % (TITLES[task], task), ""] + table(task, panels)
+    with open(os.path.join(words.out, "performance.md"), "w", encoding="utf-8") as out:
+        out.write("\n".join(lines) + "\n")
+
+
+def peer(word):
+    """The name, the one task or none, and the program of a word of the command line."""
+    name, _, program = word.partition("=")
+    name, _, only = name.partition("@")
+    return name, only, program
 
 
 def main():
@@ -177,16 +215,17 @@ def main():
     words = parser.parse_args()
     if not shutil.which("gnuplot"):
         raise SystemExit("gnuplot draws the plots: apt-get install gnuplot-nox")
-    peers = [peer for peer in (word.split("=", 1) for word in words.peers) if shutil.which(peer[1])]
+    peers = [(name, only, program) for name, only, program in map(peer, words.peers) if shutil.which(program)]
+    where = machine()
     os.makedirs(os.path.join(words.out, "performance"), exist_ok=True)
     results = {}
     for task in TITLES:
         results[task] = {}
-        for family, members in FAMILIES.items():
+        for family, members in (DOCUMENTS if task == "check" else FAMILIES).items():
             results[task][family] = curves(task, members[:2] if words.quick else members, peers, words.runs)
             print(task, family, {name: pairs[-1:] for name, pairs in results[task][family].items()}, flush=True)
         draw(task, results[task], os.path.join(words.out, "performance", task + ".svg"))
-    page(results, words.out, words.runs, peers)
+    page(results, where, words, peers)
 
 
 if __name__ == "__main__":
