@@ -34,8 +34,10 @@ class Member:
 
     def __init__(self, net):
         self.net = net
-        self.size = len(net.places) + len(net.transitions)
         self.document = net.document
+
+    def size(self, _path):
+        return len(self.net.places) + len(self.net.transitions)
 
 
 class Drawn:
@@ -43,7 +45,9 @@ class Drawn:
 
     def __init__(self, share):
         self.document = lambda: check.drawn(share)
-        self.size = round(check.SIZE / share / 1e6, 2)
+
+    def size(self, path):
+        return round(os.path.getsize(path) / 1e6, 2)
 
 
 FAMILIES = {
@@ -108,7 +112,7 @@ def programs(task, peers):
 
 
 def measured(found, member, task, runs):
-    """The least time of each program on a member of a family, the runs of all in turns."""
+    """The size of a member of a family, and the least time of each program on it, the runs of all in turns."""
     least = {}
     with written(member.document) as file:
         for turn in range(runs):
@@ -118,7 +122,7 @@ def measured(found, member, task, runs):
                 seconds = program.seconds(member, task, file.name)
                 known = least.get(program.name)
                 least[program.name] = seconds if known is None or seconds is None else min(known, seconds)
-    return least
+        return member.size(file.name), least
 
 
 def curves(task, members, peers, runs):
@@ -126,10 +130,10 @@ def curves(task, members, peers, runs):
     found = programs(task, peers)
     points = {program.name: [] for program in found}
     for member in members:
-        least = measured(found, member, task, runs)
+        size, least = measured(found, member, task, runs)
         for name, seconds in least.items():
             if seconds is not None:
-                points[name].append((member.size, max(seconds, 1e-4)))
+                points[name].append((size, max(seconds, 1e-4)))
         found = [program for program in found if least[program.name] is not None]
     return points
 
