@@ -1,4 +1,4 @@
-//! A plain reader of the same tokens, for measurement alone: what a programmer would write without proofs.
+//! A plain reader of the same tokens, only for measurements: what a programmer would write without proofs.
 use std::collections::HashSet;
 use std::io::Read;
 

@@ -185,7 +185,7 @@ def size_name(task):
 
 
 def page(results, where, words, peers):
-    """The page, which shows the plots and the numbers behind them."""
+    """The page, which shows the plots and their numbers."""
     others = "".join(" %s%s=%s" % (name, "@" + only if only else "", os.path.basename(path)) for name, only, path in peers)
     lines = [
         "# Performance",

@@ -8,7 +8,7 @@ and whether it wrote anything. Each task is run on a small net once for each
 request N that it makes: with request N refused, and with N and all after it refused. A run must end with status 10,
 nothing on standard output and one line on standard error, or with the whole answer that it gives where nothing is refused.
 Then a document of 60 MB is read under limits on the address space, from 8 MB up, with the same two outcomes.
-The first part needs `cc` and a program that is linked with the C library at run time; `refuse.c` stands in front of it.
+The first part needs `cc` and a program that is linked with the C library at run time; `refuse.c` is put in front of it.
 """
 import os
 import resource
@@ -73,7 +73,7 @@ def is_right(outcome, whole):
 
 
 def in_turn(program, library, words, document, wrong, each):
-    """Refuses each request in turn, alone and with all after it. Gives the number of requests and of answers."""
+    """Refuses each request in turn, only it and it with all after it. Gives the number of requests and of answers."""
     whole = ran(program, words, document)
     answers = 0
     for on in ({}, {"REFUSE_ON": "1"}):
@@ -135,7 +135,7 @@ def main():
         for words, document in small_runs(program):
             requests, answers = in_turn(program, library, words, document, wrong, each)
             refusals += 2 * requests
-            print("%-16s %5d requests refused, each alone and each with all after it: %d whole answers" % (" ".join(words), requests, answers))
+            print("%-16s %5d requests refused, each by itself and each with all after it: %d whole answers" % (" ".join(words), requests, answers))
     size, tried, answers = under_limits(program, wrong)
     print("canon of %d bytes under %d limits of memory: %d whole answers" % (size, tried, answers))
     for line in wrong:

@@ -4,7 +4,7 @@
     bench/replay.py [RUNS]
 
 A line tells the number of firings, the bytes of the list, the best processor time of RUNS runs (by default 5) of
-the whole process, that of the document alone (a list without lines), and how many firings a second of processor
+the whole process, that of the document only (a list without lines), and how many firings a second of processor
 time that leaves. The program reads the input, cuts the list into lines, finds the number of each id and fires it.
 """
 import sys
@@ -36,7 +36,7 @@ def main():
     program = built()
     print(load())
     print("%9s %10s %9s %9s %14s" % ("firings", "bytes", "seconds", "document", "firings a s"))
-    alone = 0.0
+    bare = 0.0
     for count in FIRINGS:
         lines = firings(count)
         with written(lambda: ring().document() + lines) as file:
@@ -44,9 +44,9 @@ def main():
         if b"\nfired %d\n" % count not in output:
             sys.exit("%d firings: the text differs" % count)
         if count == 0:
-            alone = seconds
-        rate = "%.1f million" % (count / (seconds - alone) / 1e6) if seconds > alone else "-"
-        print("%9d %10d %9.3f %9.3f %14s" % (count, len(lines), seconds, alone, rate), flush=True)
+            bare = seconds
+        rate = "%.1f million" % (count / (seconds - bare) / 1e6) if seconds > bare else "-"
+        print("%9d %10d %9.3f %9.3f %14s" % (count, len(lines), seconds, bare, rate), flush=True)
 
 
 if __name__ == "__main__":

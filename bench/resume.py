@@ -5,7 +5,7 @@
 
 The net is a ring of LAYERS layers (by default 19) with 2^LAYERS minimal siphons, and as many grown ones. The first line
 tells the processor time of `siphons`, the second the sum of those of ten runs of `resume`, each of which goes on from what
-the one before left; beside it stands how many times the first that is. The others tell how long the script
+the one before left; beside it is how many times the first that is. The others tell how long the script
 examples/parallel-siphons.sh takes by the clock with 1, 2 and 4 processes, in parts of its time with one.
 """
 import os
@@ -58,13 +58,13 @@ def main():
         print("%-28s %9.2f s  %d siphons" % ("siphons", whole, int(output.split()[-1])), flush=True)
         total, found, runs = resumed(program, file.name, -(-(2**size) // RUNS))
         print("%-28s %9.2f s  %d siphons  %.2f of it" % ("%d runs of resume" % runs, total, found, total / whole), flush=True)
-        alone = None
+        single = None
         for processes in PROCESSES:
             seconds, found = scripted(program, file.name, processes)
-            alone = alone or seconds
+            single = single or seconds
             print(
                 "%-28s %9.2f s  %d siphons  %.2f of one process"
-                % ("the script, %d processes" % processes, seconds, found, seconds / alone),
+                % ("the script, %d processes" % processes, seconds, found, seconds / single),
                 flush=True,
             )
 

@@ -40,7 +40,7 @@ enum pnmlstruct_status {
  * out     gets the text at its front, as standard output
  * err     gets the line of a status other than 0 at its front, as standard error; it is cut where it doesn't fit.
  *         A line has at most some 8,300 bytes: it may name two ids
- * written tells how many bytes each of the two got; what is behind them stays as it was
+ * written tells how many bytes each of the two got; what comes after them stays as it was
  *
  * Where the status is PNMLSTRUCT_TEXT_CUT, call again with a larger `out`. Status 8, a failed read, doesn't occur.
  *
