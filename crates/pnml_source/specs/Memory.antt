@@ -37,10 +37,11 @@ within_piece (first ∷ others) call n = min n (max 1 (slice_index (first ∷ ot
 abbrev pub bytes_moved : Schedule → ℕ → ℕ
 bytes_moved schedule n = within_piece schedule.pieces schedule.call n
 
--- a source in memory: the bytes left
+-- a source in memory: the bytes left, and the most room that a call has had so far
 pub record MemoryInput : Type 0 where
   pub left : List ℕ
   pub schedule : Schedule
+  pub largest : ℕ
 
 -- a sink in memory: the bytes held, and the most that it can hold
 pub record MemoryOutput : Type 0 where

@@ -19,7 +19,7 @@ mod writing;
 pub use failed::Failed;
 pub use memory_sink::MemorySink;
 pub use memory_source::MemorySource;
-pub use reading::{ReadAllFault, read_all};
+pub use reading::{READ_SIZE, ReadAllFault, ReadPieceFault, read_all, read_buffer, read_piece};
 pub use sink::Sink;
 pub use source::Source;
 pub use std_sink::StdSink;

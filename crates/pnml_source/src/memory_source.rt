@@ -1,4 +1,4 @@
-ghost use Rattle.std.specs.Prelude.{◌≡◌, ◌+◌, ◌-◌, ◌^◌, ◌≤◌, [], ◌++◌, length, take, drop, is_err, IfOk, OnErr};
+ghost use Rattle.std.specs.Prelude.{◌≡◌, ◌+◌, ◌-◌, ◌^◌, ◌≤◌, [], ◌++◌, length, max, take, drop, is_err, IfOk, OnErr};
 ghost use Rattle.std.specs.Io.{ReadsAtMost};
 ghost use Rattle.pnml_source.specs.Causes.{HasCause};
 ghost use Rattle.pnml_source.specs.Streams.{GivesNext};
@@ -19,6 +19,7 @@ pub struct MemorySource {
     bytes: Vec<u8>,
     at: usize,
     schedule: Schedule,
+    largest: usize,
 }
 
 impl Model for MemorySource {
@@ -27,7 +28,7 @@ impl Model for MemorySource {
 
     ghost Value = { MemoryInput };
 
-    ghost view = { λ s. record { left = drop s.at s.bytes.items; schedule = s.schedule } };
+    ghost view = { λ s. record { left = drop s.at s.bytes.items; schedule = s.schedule; largest = s.largest } };
 
     ghost invariant = { λ s. s.at ≤ vec_len s.bytes };
 }
@@ -35,13 +36,22 @@ impl Model for MemorySource {
 impl MemorySource {
     /// The source before its call 0.
     pub fn new(bytes: Vec<u8>, pieces: Vec<usize>, failing: Vec<u64>) -> MemorySource
-        ensures { result ≡ record { left = bytes.items; schedule = before_calls pieces.items failing.items } }
+        ensures { result ≡
+            record { left = bytes.items; schedule = before_calls pieces.items failing.items; largest = 0 } }
     {
         MemorySource {
             bytes,
             at: 0,
             schedule: Schedule::new(pieces, failing),
+            largest: 0,
         }
+    }
+
+    /// The length of the longest `buf` that any call was given so far, 0 before the first.
+    pub fn largest_request(&self) -> usize
+        ensures { result ≡ self.now.largest }
+    {
+        self.largest
     }
 }
 
@@ -61,10 +71,12 @@ impl Source for MemorySource {
         // The calls that fail are those that were named.
         ensures fails { is_err result ≡ is_failing self.old.schedule }
         ensures count { IfOk result (λ n. n ≡ bytes_given self.old (length buf.old)) }
-        ensures ok { IfOk result (λ n.
-            self.new ≡ record { left = drop n self.old.left; schedule = after_call self.old.schedule }) }
-        ensures err { OnErr result (self.new ≡ record self.old { schedule = after_fault self.old.schedule }) }
+        ensures ok { IfOk result (λ n. self.new ≡
+            record { left = drop n self.old.left; schedule = after_call self.old.schedule; largest = max self.old.largest (length buf.old) }) }
+        ensures err { OnErr result (self.new ≡
+            record self.old { schedule = after_fault self.old.schedule; largest = max self.old.largest (length buf.old) }) }
     {
+        self.largest = self.largest.max(buf.len());
         let left = self.bytes.len() - self.at;
         let count = self.schedule.next_call(left.min(buf.len()), false)?;
         give(self.bytes.as_slice(), self.at, count, buf);

@@ -1,8 +1,9 @@
-ghost use Rattle.std.specs.Prelude.{◌≡◌, true, false, ◌+◌, ◌-◌, ◌^◌, ◌≤◌, ◌<◌, length, vec_len, IfOk, OnOk, IfErr, MatchResult};
-ghost use Rattle.std.specs.Io.KnownBytes.{IsAtEnd};
+ghost use Rattle.std.specs.Prelude.{◌≡◌, true, false, ◌+◌, ◌-◌, ◌^◌, ◌≤◌, ◌<◌, length, take, vec_len, IfOk, OnOk, IfErr, MatchResult};
+ghost use Rattle.std.specs.Io.KnownBytes.{Consumes, IsAtEnd};
 ghost use Rattle.pnml_source.specs.Causes.{Rose};
 ghost use Rattle.pnml_source.specs.Streams.{IsWholeInput, MovesBytes, TakesAtMost, TakesExactly};
 ghost use Rattle.pnml_source.specs.declared.reading.ReadAllFault.TheVariants.{NoMemory, ReadFault, TooLong};
+ghost use Rattle.pnml_source.specs.declared.reading.ReadPieceFault.TheVariants.{ReadFault as Failed, TooLong as Exceeded};
 
 use crate::source::Source;
 use std::alloc::{AllocError, Global};
@@ -18,6 +19,26 @@ pub enum ReadAllFault {
     TooLong,
 }
 
+/// Why [`read_piece`] gave no bytes.
+#[derive(Clone, Copy, Debug, PartialEq, Eq)]
+pub enum ReadPieceFault {
+    /// The source failed.
+    ReadFault,
+    /// The source gave more bytes than the limit.
+    TooLong,
+}
+
+impl From<net_values::NoMemory> for ReadAllFault {
+    ghost use Rattle.std.specs.Prelude.{◌≡◌};
+    ghost use Rattle.pnml_source.specs.declared.reading.ReadAllFault.TheVariants.{NoMemory};
+
+    ghost from_gives = { λ _ e. e ≡ NoMemory };
+
+    fn from(_error: net_values::NoMemory) -> ReadAllFault {
+        ReadAllFault::NoMemory
+    }
+}
+
 impl From<AllocError> for ReadAllFault {
     ghost use Rattle.std.specs.Prelude.{◌≡◌};
     ghost use Rattle.pnml_source.specs.declared.reading.ReadAllFault.TheVariants.{NoMemory};
@@ -29,8 +50,8 @@ impl From<AllocError> for ReadAllFault {
     }
 }
 
-// How many bytes one read asks for at most.
-const READ_SIZE: usize = 65_536;
+/// How many bytes one read asks for at most.
+pub const READ_SIZE: usize = 65_536;
 
 /// The bytes up to the end of input, of which there are at most `limit`.
 ///
@@ -72,9 +93,9 @@ pub fn read_all<S: Source>(
         S.faults source.new ≡ S.faults source.old) }
 {
     let mut bytes = Vec::new(alloc);
-    let mut buffer = zeros(alloc, READ_SIZE)?;
+    let mut buffer = read_buffer(alloc)?;
     loop {
-        match read_piece(source, buffer.as_mut_slice(), &mut bytes, limit) {
+        match append_piece(source, buffer.as_mut_slice(), &mut bytes, limit) {
             Ok(true) => {}
             Ok(false) => return Ok(bytes),
             Err(fault) => return Err(fault),
@@ -82,15 +103,8 @@ pub fn read_all<S: Source>(
     }
 }
 
-// A buffer of this length.
-fn zeros(alloc: Global, length: usize) -> Result<Vec<u8>, AllocError>
-    ensures { IfOk result (λ buffer. vec_len buffer ≡ length) }
-{
-    vec![in alloc; 0u8; length]
-}
-
 // Reads once, and appends what came. It gives whether anything came.
-fn read_piece<S: Source>(
+fn append_piece<S: Source>(
     source: &mut S,
     buffer: &mut [u8],
     bytes: &mut Vec<u8>,
@@ -117,16 +131,59 @@ fn read_piece<S: Source>(
     ensures not_read { IfErr result (λ e. (e ≡ ReadFault → ⊥) →
         S.faults source.new ≡ S.faults source.old) }
 {
-    let wanted = buffer.len().min(limit - bytes.len() + 1);
-    let piece = &mut buffer[..wanted];
-    match source.read(piece) {
-        Err(_) => Err(ReadAllFault::ReadFault),
+    match read_piece(source, buffer, bytes.len(), limit) {
+        Err(ReadPieceFault::ReadFault) => Err(ReadAllFault::ReadFault),
+        Err(ReadPieceFault::TooLong) => Err(ReadAllFault::TooLong),
         Ok(count) => {
-            if count > limit - bytes.len() {
-                return Err(ReadAllFault::TooLong);
-            }
-            bytes.extend_from_slice(&piece[..count])?;
+            bytes.extend_from_slice(&buffer[..count])?;
             Ok(count > 0)
         }
+    }
+}
+
+/// A buffer for [`read_piece`], of [`READ_SIZE`] bytes.
+pub fn read_buffer(alloc: Global) -> Result<Vec<u8>, net_values::NoMemory>
+    ensures { IfOk result (λ buffer. vec_len buffer ≡ READ_SIZE) }
+{
+    Ok(vec![in alloc; 0u8; READ_SIZE]?)
+}
+
+/// Reads once, at most what fills the buffer, where so many bytes were read `before` and at most `limit` may be. The
+/// bytes are the first ones of the buffer; the answer is their number, which is 0 at the end of input alone.
+///
+/// Errors: `ReadFault` where the source failed, `TooLong` where it gave byte `limit + 1`.
+pub fn read_piece<S: Source>(
+    source: &mut S,
+    buffer: &mut [u8],
+    before: usize,
+    limit: usize,
+) -> Result<usize, ReadPieceFault>
+    requires limit_fits { limit < 2 ^ 63 }
+    requires within { before ≤ limit }
+    requires room { 0 < length buffer.old }
+
+    // The bytes taken lie in the buffer, and none come at the end alone.
+    ensures fits { IfOk result (λ count. count ≤ length buffer.new) }
+    ensures taken { IfOk result (λ count. Consumes (S.left source.old) (S.left source.new) (take count buffer.new)) }
+    ensures within { IfOk result (λ count. before + count ≤ limit) }
+    ensures ended { IfOk result (λ count. count ≡ 0 → IsAtEnd (S.left source.new)) }
+
+    // A failed read is one that the count tells.
+    ensures kept { OnOk result (S.faults source.new ≡ S.faults source.old) }
+    ensures later { S.faults source.old ≤ S.faults source.new }
+    ensures read_fault { IfErr result (λ e. e ≡ Failed →
+        Rose (S.faults source.old) (S.faults source.new)) }
+
+    // The input is too long where one byte more than the limit was taken.
+    ensures too_long { IfErr result (λ e. e ≡ Exceeded →
+        TakesExactly (S.left source.old) (S.left source.new) (limit + 1 - before)) }
+    ensures too_long_kept { IfErr result (λ e. e ≡ Exceeded →
+        S.faults source.new ≡ S.faults source.old) }
+{
+    let wanted = buffer.len().min(limit - before + 1);
+    match source.read(&mut buffer[..wanted]) {
+        Err(_) => Err(ReadPieceFault::ReadFault),
+        Ok(count) if count > limit - before => Err(ReadPieceFault::TooLong),
+        Ok(count) => Ok(count),
     }
 }

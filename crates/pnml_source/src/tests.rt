@@ -38,6 +38,28 @@ fn sources_in_memory_cut_and_fail_as_told(rt: HostRuntime) -> Result<(), Fail> {
     Ok(())
 }
 
+#[test]
+fn the_longest_request_is_told(rt: HostRuntime) -> Result<(), Fail> {
+    let alloc = rt.alloc();
+    let bytes = Vec::from_slice(alloc, b"abcde".as_slice())?;
+    let pieces = Vec::from_slice(alloc, [1].as_slice())?;
+    let failing = Vec::from_slice(alloc, [2].as_slice())?;
+    let mut source = MemorySource::new(bytes, pieces, failing);
+    assert_eq!(rt; source.largest_request(), 0);
+    let mut buffer = read_buffer(alloc)?;
+    assert_eq!(rt; buffer.len(), READ_SIZE);
+    let too_long = read_piece(&mut source, buffer.as_mut_slice(), 0, 0);
+    assert_eq!(rt; too_long, Err(ReadPieceFault::TooLong));
+    assert_eq!(rt; source.largest_request(), 1);
+    let one = read_piece(&mut source, buffer.as_mut_slice(), 1, 9);
+    assert_eq!(rt; one, Ok(1));
+    assert_eq!(rt; source.largest_request(), 9);
+    let failed = read_piece(&mut source, buffer.as_mut_slice(), 1, 3);
+    assert_eq!(rt; failed, Err(ReadPieceFault::ReadFault));
+    assert_eq!(rt; source.largest_request(), 9);
+    Ok(())
+}
+
 /// The answer of a whole read with its bytes lent.
 fn lent(answer: &Result<Vec<u8>, ReadAllFault>) -> Result<&[u8], ReadAllFault> {
     match answer {
