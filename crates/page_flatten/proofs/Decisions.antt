@@ -85,7 +85,7 @@ distinct_or_repeated front (id ∷ rest) distinct = elim (somewhere (λ other. o
       back = rest;
       occurs = refl;
       before = distinct;
-      place = found.0;
+      earlier = found.0;
       repeated = found.2 ∙ ap Some found.3;
     },
   )

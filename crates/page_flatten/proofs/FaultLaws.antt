@@ -9,6 +9,9 @@ use Rattle.page_flatten.specs.declared.links.Link.{Link}
 use Rattle.net_values.specs.declared.node_kind.NodeKind.{NodeKind}
 use Rattle.page_flatten.specs.Elements.{Mention, ReferenceTo, reference_of}
 use Rattle.page_flatten.specs.Rules.{IsKnown, NamesItsKind, IsFirstWithout}
+use Rattle.page_flatten.specs.declared.rules.NameRule.{NameRule}
+use Rattle.page_flatten.specs.declared.rules.NameRule.TheVariants.{Mentions, Kinds}
+use Rattle.page_flatten.specs.Names.{Looked, IsKept, IsFirstBreaking}
 use Rattle.page_flatten.specs.Tables.{ItsLinksEnd, LinksJoin, IsFirstUnknown, IsFirstOfWrongKind, IsFirstEndless, IsFirstMisjoined, IsEndless, IsMisjoined}
 use Rattle.page_flatten.proofs.Passes.{first_only}
 
@@ -33,7 +36,7 @@ module _ (table : List (List ℕ × Option NodeKind)) where
   unknown_moves xs ys moves (ArcEnds id) h = absurd h
   unknown_moves xs ys moves (NoNet count) h = absurd h
 
-  pub wrong_kind_moves : (xs ys : List ReferenceTo) → ((x : ReferenceTo) → IsFirstWithout (NamesItsKind table) xs x → IsFirstWithout (NamesItsKind table) ys x) → (fault : FlatFault) → IsFirstOfWrongKind table xs fault → IsFirstOfWrongKind table ys fault
+  wrong_kind_moves : (xs ys : List ReferenceTo) → ((x : ReferenceTo) → IsFirstWithout (NamesItsKind table) xs x → IsFirstWithout (NamesItsKind table) ys x) → (fault : FlatFault) → IsFirstOfWrongKind table xs fault → IsFirstOfWrongKind table ys fault
   wrong_kind_moves xs ys moves NoMemory h = tt
   wrong_kind_moves xs ys moves (DuplicateId id) h = absurd h
   wrong_kind_moves xs ys moves (UnknownId id by) h = absurd h
@@ -41,6 +44,10 @@ module _ (table : List (List ℕ × Option NodeKind)) where
   wrong_kind_moves xs ys moves (RefCycle id) h = absurd h
   wrong_kind_moves xs ys moves (ArcEnds id) h = absurd h
   wrong_kind_moves xs ys moves (NoNet count) h = absurd h
+
+  pub breaking_moves : (rule : NameRule) (xs ys : List (Looked rule)) → ((x : Looked rule) → IsFirstWithout (IsKept rule table) xs x → IsFirstWithout (IsKept rule table) ys x) → (fault : FlatFault) → IsFirstBreaking rule table xs fault → IsFirstBreaking rule table ys fault
+  breaking_moves Mentions = unknown_moves
+  breaking_moves Kinds = wrong_kind_moves
 
   pub endless_moves : (links other : List Link) (xs ys : List ReferenceTo) → ((x : ReferenceTo) → IsFirstWithout (ItsLinksEnd table links) xs x → IsFirstWithout (ItsLinksEnd table other) ys x) → (fault : FlatFault) → IsFirstEndless table links xs fault → IsFirstEndless table other ys fault
   endless_moves links other xs ys moves NoMemory h = tt

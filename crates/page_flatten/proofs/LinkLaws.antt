@@ -1,21 +1,17 @@
 -- The elements so far are linked: those that the items so far begin, after the net itself.
-use Rattle.std.proofs.Common.{◌≡◌, refl, sym, ap, ◌∙◌, subst, ℕ, zero, suc, ◌+◌, ◌<◌, ◌≤◌, List, [], ◌∷◌, ◌++◌, Option, Some, None, length, drop, get_or, slice_get, map, append_assoc, inl, inr, arith}
+use Rattle.std.proofs.Common.{◌≡◌, refl, sym, ap, ◌∙◌, subst, ℕ, ◌+◌, ◌<◌, ◌≤◌, List, [], ◌∷◌, ◌++◌, Option, length, drop, get_or, map, append_assoc, arith}
 use Rattle.std.specs.List.{flat_map, AllByRecursion}
 use Rattle.std.specs.Option.{option_to_list}
-use Rattle.std.proofs.lemmas.List.{append-nil, drop_all, map-append}
+use Rattle.std.proofs.lemmas.List.{append-nil, drop_all}
 use Rattle.net_values.specs.declared.document.NetTree.{NetTree}
 use Rattle.net_values.specs.declared.document.Item.{Item}
 use Rattle.net_values.specs.declared.document.Item.TheVariants.{Page, PageEnd, Place, Transition, RefPlace, RefTransition, Arc}
 use Rattle.net_values.specs.declared.node_kind.NodeKind.{NodeKind}
 use Rattle.page_flatten.specs.declared.links.Link.{Link}
 use Rattle.page_flatten.specs.declared.links.Link.TheVariants.{Apart}
-use Rattle.page_flatten.specs.Elements.{Element, NoNode, elements_from, elements, entry_of, entries, mentions}
-use Rattle.page_flatten.specs.declared.fault.FlatFault.{FlatFault}
-use Rattle.page_flatten.specs.declared.fault.FlatFault.TheVariants.{NoMemory, DuplicateId, UnknownId, RefKind, RefCycle, ArcEnds, NoNet}
-use Rattle.page_flatten.specs.Rules.{AreDistinct, IsKnown, IsFirstRepeated, ids_of, ids_in}
-use Rattle.page_flatten.specs.Passes.{NamesRepeated}
-use Rattle.page_flatten.specs.Tables.{table_ids, item_entry, IsNumbered, IsRepeated, places_after, transitions_after, AreLinksOf}
-use Rattle.page_flatten.proofs.Lists.{some_is, from_push}
+use Rattle.page_flatten.specs.Elements.{Element, NoNode, elements_from, elements, entry_of, mentions}
+use Rattle.page_flatten.specs.Rules.{IsKnown}
+use Rattle.page_flatten.specs.Tables.{item_entry, places_after, transitions_after, AreLinksOf}
 use Rattle.page_flatten.proofs.Passes.{item_and_rest, each_after}
 
 -- the element of the first item, and those after it

@@ -1,5 +1,5 @@
 -- Each net of a valued document fits the limits, and the flat net of the chosen number is kept from its net on.
-use Rattle.std.proofs.Common.{◌≡◌, subst, slice_get, ℕ, suc, ◌+◌, ◌≤◌, Bool, List, [], ◌∷◌, ◌++◌, Option, Some, None, Result, Ok, Err, IfOk, count_by, cond, arith}
+use Rattle.std.proofs.Common.{◌≡◌, subst, slice_get, ℕ, suc, ◌+◌, ◌≤◌, Bool, List, [], ◌∷◌, Option, Some, None, count_by, cond, arith}
 use Rattle.std.proofs.lemmas.List.Sums.{sum_by-append}
 use Rattle.std.specs.List.{AllByRecursion}
 use Rattle.net_values.specs.declared.document.Document.{Document}

@@ -1,5 +1,5 @@
 -- What the fault of a pass over one net says of the document.
-use Rattle.std.proofs.Common.{◌≡◌, subst, ℕ, List, Some, take, slice_get}
+use Rattle.std.proofs.Common.{◌≡◌, ℕ, List, Some, take, slice_get}
 use Rattle.std.specs.List.{flat_map, AllByRecursion}
 use Rattle.net_values.specs.declared.document.NetTree.{NetTree}
 use Rattle.net_values.specs.declared.document.Document.{Document}
@@ -8,13 +8,16 @@ use Rattle.page_flatten.specs.declared.fault.FlatFault.TheVariants.{NoMemory, Du
 use Rattle.page_flatten.specs.Elements.{entries, mentions, references, arcs}
 use Rattle.page_flatten.specs.Rules.{AreDistinct, ids_in, ids_of, MentionsNodes, KeepsKinds, EndsChains, JoinsArcs, IsKnown, NamesItsKind, ItsChainEnds, JoinsPlaceAndTransition, IsAnswered}
 use Rattle.page_flatten.specs.Tables.{IsFirstUnknown, IsFirstOfWrongKind}
+use Rattle.page_flatten.specs.declared.rules.NameRule.{NameRule}
+use Rattle.page_flatten.specs.declared.rules.NameRule.TheVariants.{Mentions, Kinds}
+use Rattle.page_flatten.specs.Names.{looked, KeepsRule, IsFirstBreaking, NamesBroken}
 use Rattle.page_flatten.specs.Passes.{NamesRepeated, NamesUnknown, NamesWrongKind, NamesEndless, NamesMisjoined, NamesUnending, NamesWrongArc}
 use Rattle.page_flatten.proofs.NetLists.{first_in, distinct_at}
 use Rattle.page_flatten.proofs.OneAnswer.{none_repeated}
 
 -- from the fault at the net of a number, where the nets before keep the rule
 module _ (nets : List NetTree) (k : ℕ) (net : NetTree) (at : slice_get nets k ≡ Some net) where
-  pub unknown_in : AllByRecursion MentionsNodes (take k nets) → (fault : FlatFault) → IsFirstUnknown (entries net) (flat_map mentions net.items) fault → NamesUnknown nets fault
+  unknown_in : AllByRecursion MentionsNodes (take k nets) → (fault : FlatFault) → IsFirstUnknown (entries net) (flat_map mentions net.items) fault → NamesUnknown nets fault
   unknown_in passed NoMemory h = tt
   unknown_in passed (DuplicateId id) h = absurd h
   unknown_in passed (UnknownId id by) h = first_in (λ tree. flat_map mentions tree.items) (λ tree. IsKnown (entries tree)) nets k net _ at passed h
@@ -23,7 +26,7 @@ module _ (nets : List NetTree) (k : ℕ) (net : NetTree) (at : slice_get nets k 
   unknown_in passed (ArcEnds id) h = absurd h
   unknown_in passed (NoNet count) h = absurd h
 
-  pub wrong_kind_in : AllByRecursion KeepsKinds (take k nets) → (fault : FlatFault) → IsFirstOfWrongKind (entries net) (flat_map references net.items) fault → NamesWrongKind nets fault
+  wrong_kind_in : AllByRecursion KeepsKinds (take k nets) → (fault : FlatFault) → IsFirstOfWrongKind (entries net) (flat_map references net.items) fault → NamesWrongKind nets fault
   wrong_kind_in passed NoMemory h = tt
   wrong_kind_in passed (DuplicateId id) h = absurd h
   wrong_kind_in passed (UnknownId id by) h = absurd h
@@ -31,6 +34,10 @@ module _ (nets : List NetTree) (k : ℕ) (net : NetTree) (at : slice_get nets k 
   wrong_kind_in passed (RefCycle id) h = absurd h
   wrong_kind_in passed (ArcEnds id) h = absurd h
   wrong_kind_in passed (NoNet count) h = absurd h
+
+  pub broken_in : (rule : NameRule) → AllByRecursion (KeepsRule rule) (take k nets) → (fault : FlatFault) → IsFirstBreaking rule (entries net) (flat_map (looked rule) net.items) fault → NamesBroken rule nets fault
+  broken_in Mentions = unknown_in
+  broken_in Kinds = wrong_kind_in
 
   pub endless_in : AllByRecursion EndsChains (take k nets) → (fault : FlatFault) → NamesUnending net fault → NamesEndless nets fault
   endless_in passed NoMemory h = tt

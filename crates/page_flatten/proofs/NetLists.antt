@@ -1,8 +1,8 @@
 -- A pass over the nets of a document: what holds of each net so far holds of all of them at the end, and the first
 -- member without a property in one net is the first of all nets where those before have none.
-use Rattle.std.proofs.Common.{◌≡◌, refl, sym, ap, ◌∙◌, subst, ℕ, zero, suc, ◌+◌, ◌<◌, ◌≤◌, List, [], ◌∷◌, ◌++◌, Some, length, take, drop, map, slice_get, arith}
+use Rattle.std.proofs.Common.{◌≡◌, refl, sym, ap, ◌∙◌, subst, ℕ, zero, suc, ◌+◌, ◌≤◌, List, [], ◌∷◌, ◌++◌, Some, length, take, drop, slice_get, arith}
 use Rattle.std.proofs.Math.Seq.{take_all}
-use Rattle.std.specs.List.{flat_map, AllByRecursion, AllZip}
+use Rattle.std.specs.List.{AllByRecursion, AllZip}
 use Rattle.net_values.specs.declared.document.NetTree.{NetTree}
 use Rattle.page_flatten.specs.Rules.{AreDistinct, HasDistinctIds, ids_of, ids_in, IsFirstWithout, IsFirstIn}
 use Rattle.page_flatten.proofs.Lists.{some_is, get_front}

@@ -1,23 +1,19 @@
 -- The elements so far are numbered: those that the items so far begin, after the net itself and the elements of the
 -- nets before.
 use Rattle.std.proofs.Common.{◌≡◌, refl, sym, ap, ◌∙◌, subst, ℕ, zero, suc, ◌+◌, ◌<◌, ◌≤◌, List, [], ◌∷◌, ◌++◌, Option, Some, None, length, drop, get_or, slice_get, map, append_assoc, inl, inr, arith}
-use Rattle.std.specs.List.{flat_map, AllByRecursion}
+use Rattle.std.specs.List.{flat_map}
 use Rattle.std.specs.Option.{option_to_list}
 use Rattle.std.proofs.lemmas.List.{append-nil, drop_all, map-append}
 use Rattle.net_values.specs.declared.document.NetTree.{NetTree}
 use Rattle.net_values.specs.declared.document.Item.{Item}
-use Rattle.net_values.specs.declared.document.Item.TheVariants.{Page, PageEnd, Place, Transition, RefPlace, RefTransition, Arc}
 use Rattle.net_values.specs.declared.node_kind.NodeKind.{NodeKind}
-use Rattle.page_flatten.specs.declared.links.Link.{Link}
-use Rattle.page_flatten.specs.declared.links.Link.TheVariants.{Apart}
-use Rattle.page_flatten.specs.Elements.{Element, NoNode, elements_from, elements, entry_of, entries, mentions}
+use Rattle.page_flatten.specs.Elements.{Element, NoNode, elements_from, elements, entry_of, entries}
 use Rattle.page_flatten.specs.declared.fault.FlatFault.{FlatFault}
 use Rattle.page_flatten.specs.declared.fault.FlatFault.TheVariants.{NoMemory, DuplicateId, UnknownId, RefKind, RefCycle, ArcEnds, NoNet}
-use Rattle.page_flatten.specs.Rules.{AreDistinct, IsKnown, IsFirstRepeated, ids_of, ids_in}
+use Rattle.page_flatten.specs.Rules.{AreDistinct, IsFirstRepeated, ids_of, ids_in}
 use Rattle.page_flatten.specs.Passes.{NamesRepeated}
-use Rattle.page_flatten.specs.Tables.{table_ids, item_entry, IsNumbered, IsRepeated, places_after, transitions_after, AreLinksOf}
+use Rattle.page_flatten.specs.Tables.{table_ids, item_entry, IsNumbered, IsRepeated, places_after, transitions_after}
 use Rattle.page_flatten.proofs.Lists.{some_is, from_push}
-use Rattle.page_flatten.proofs.Passes.{item_and_rest, each_after}
 use Rattle.page_flatten.proofs.LinkLaws.{elements_entry, next_element, last_element}
 
 -- after those of the table that was there
@@ -100,7 +96,7 @@ repeated_here old net k item numbers id kind n within is before entry at =
           ap (λ l. table_ids old ++ l) (sym (ids_are (elements net))) ∙ sym (map-append (λ e. e.0) old (map entry_of (elements net)))
           ∙ ap table_ids all ∙ map-append (λ e. e.0) numbers ((id, kind) ∷ map entry_of rest);
       before = before.distinct;
-      place = n;
+      earlier = n;
       repeated = at;
     }
 
@@ -114,7 +110,7 @@ repeated_net old net id kind n distinct entry at =
       back = map (λ element. element.id) (elements_from net.items 0 0);
       occurs = ap (λ first. table_ids old ++ first ∷ map (λ element. element.id) (elements_from net.items 0 0)) same;
       before = distinct;
-      place = n;
+      earlier = n;
       repeated = at;
     }
 
@@ -188,7 +184,7 @@ repeated_so_far nets k net old id at before first =
       back = first.back ++ rest;
       occurs = ids ∙ ap (λ l. l ++ rest) first.occurs ∙ append_assoc first.front (id ∷ first.back) rest;
       before = first.before;
-      place = first.place;
+      earlier = first.earlier;
       repeated = first.repeated;
     }
 

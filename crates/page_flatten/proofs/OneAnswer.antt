@@ -12,9 +12,9 @@ use Rattle.page_flatten.specs.declared.links.End.TheVariants.{AtPlace, AtTransit
 use Rattle.page_flatten.specs.Elements.{Element, Role, Real, Reference, elements, entries, Mention, ReferenceTo, mentions, references, arcs}
 use Rattle.page_flatten.specs.Chains.{Resolves, to_itself, to_what_it_names}
 use Rattle.net_values.specs.declared.document.Document.{Document}
-use Rattle.page_flatten.specs.Rules.{AreDistinct, ids_of, ids_in, IsKnown, NamesItsKind, ItsChainEnds, JoinsPlaceAndTransition, IsFirstWithout, IsFirstIn, IsFirstRepeated, FirstBroken, BreaksNoRule}
+use Rattle.page_flatten.specs.Rules.{AreDistinct, ids_in, IsKnown, NamesItsKind, ItsChainEnds, JoinsPlaceAndTransition, IsFirstWithout, IsFirstIn, IsFirstRepeated, FirstBroken, BreaksNoRule}
 use Rattle.net_values.specs.FlatNets.{NetLists}
-use Rattle.page_flatten.specs.Flat.{FlatArc, IsResolved, IsNet, Flat, FlatOf, weight_between}
+use Rattle.page_flatten.specs.Flat.{FlatArc, IsResolved, IsNet, FlatOf, weight_between}
 use Rattle.page_flatten.specs.Laws.{HasOneFault, BreaksWhereFaulty, HasOneFlatNet, IsSameNet}
 use Rattle.page_flatten.proofs.Lists.{some_is, within, get_map, get_front}
 use Rattle.page_flatten.proofs.Passes.{none_first}
@@ -45,12 +45,12 @@ get_of_front (z ∷ xs) ys (suc n) x below at = get_of_front xs ys n x (omega ar
 longer_repeats : (ids : List (List ℕ)) (x y : List ℕ) (a : IsFirstRepeated ids x) (b : IsFirstRepeated ids y) → length a.front < length b.front → ⊥
 longer_repeats ids x y a b shorter =
     let whole : a.front ++ x ∷ a.back ≡ b.front ++ y ∷ b.back = sym a.occurs ∙ b.occurs in
-    let before = within a.front a.place x a.repeated in
+    let before = within a.front a.earlier x a.repeated in
     let here : slice_get b.front (length a.front) ≡ Some x =
     get_of_front b.front (y ∷ b.back) (length a.front) x shorter (ap (λ l. slice_get l (length a.front)) (sym whole) ∙ get_back a.front a.back x) in
-    let early : slice_get b.front a.place ≡ Some x =
-    get_of_front b.front (y ∷ b.back) a.place x (omega arith) (ap (λ l. slice_get l a.place) (sym whole) ∙ get_front a.front (x ∷ a.back) a.place x a.repeated) in
-    let same : a.place ≡ length a.front = b.before a.place (length a.front) x early here in
+    let early : slice_get b.front a.earlier ≡ Some x =
+    get_of_front b.front (y ∷ b.back) a.earlier x (omega arith) (ap (λ l. slice_get l a.earlier) (sym whole) ∙ get_front a.front (x ∷ a.back) a.earlier x a.repeated) in
+    let same : a.earlier ≡ length a.front = b.before a.earlier (length a.front) x early here in
     omega arith
 
 one_repeated : (ids : List (List ℕ)) (x y : List ℕ) → IsFirstRepeated ids x → IsFirstRepeated ids y → x ≡ y
@@ -68,10 +68,10 @@ one_repeated ids x y a b =
 
 pub none_repeated : (ids : List (List ℕ)) (x : List ℕ) → AreDistinct ids → IsFirstRepeated ids x → ⊥
 none_repeated ids x distinct a =
-    let before = within a.front a.place x a.repeated in
-    let early : slice_get ids a.place ≡ Some x = ap (λ l. slice_get l a.place) a.occurs ∙ get_front a.front (x ∷ a.back) a.place x a.repeated in
+    let before = within a.front a.earlier x a.repeated in
+    let early : slice_get ids a.earlier ≡ Some x = ap (λ l. slice_get l a.earlier) a.occurs ∙ get_front a.front (x ∷ a.back) a.earlier x a.repeated in
     let here : slice_get ids (length a.front) ≡ Some x = ap (λ l. slice_get l (length a.front)) a.occurs ∙ get_back a.front a.back x in
-    let same : a.place ≡ length a.front = distinct a.place (length a.front) x early here in
+    let same : a.earlier ≡ length a.front = distinct a.earlier (length a.front) x early here in
     omega arith
 
 -- the lists of a net, and what the rules ask of their members

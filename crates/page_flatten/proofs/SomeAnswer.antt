@@ -1,6 +1,6 @@
 -- A document breaks no rule and has its flat nets, or has a first broken rule: the rules are decided one after the
 -- other, each in all nets where those before it are kept.
-use Rattle.std.proofs.Common.{◌≡◌, refl, ap, ◌∙◌, List, [], ◌∷◌, ◌++◌, ℕ, zero, suc, ◌⊎◌, inl, inr, Option, Some, None, slice_get}
+use Rattle.std.proofs.Common.{◌≡◌, refl, ap, List, [], ◌∷◌, ℕ, zero, suc, ◌⊎◌, inl, inr, Option, Some, None, slice_get}
 use Rattle.std.specs.List.{flat_map, AllByRecursion}
 use Rattle.net_values.specs.declared.document.Document.{Document}
 use Rattle.net_values.specs.declared.document.NetTree.{NetTree}
@@ -8,7 +8,7 @@ use Rattle.net_values.specs.FlatNets.{NetLists}
 use Rattle.page_flatten.specs.declared.fault.FlatFault.{FlatFault}
 use Rattle.page_flatten.specs.declared.fault.FlatFault.TheVariants.{DuplicateId, UnknownId, RefKind, RefCycle, ArcEnds}
 use Rattle.page_flatten.specs.Elements.{entries, mentions, references, arcs}
-use Rattle.page_flatten.specs.Rules.{AreDistinct, HasDistinctIds, MentionsNodes, KeepsKinds, EndsChains, JoinsArcs, BreaksNoRule, IsKnown, NamesItsKind, ItsChainEnds, JoinsPlaceAndTransition, IsFirstWithout, IsFirstIn, FirstBroken, ids_in}
+use Rattle.page_flatten.specs.Rules.{AreDistinct, HasDistinctIds, MentionsNodes, KeepsKinds, EndsChains, JoinsArcs, IsKnown, NamesItsKind, ItsChainEnds, JoinsPlaceAndTransition, IsFirstWithout, IsFirstIn, FirstBroken, ids_in}
 use Rattle.page_flatten.specs.Flat.{Flat, LacksNet}
 use Rattle.page_flatten.specs.Laws.{HasFlatNet, HasNetOrFault}
 use Rattle.page_flatten.proofs.Decisions.{all_or_first, distinct_or_repeated, known_or_not, kind_or_not, chain_or_not, joins_or_not}

@@ -10,3 +10,4 @@ pub mod Laws
 pub mod Tables
 pub mod Joints
 pub mod Passes
+pub mod Names

@@ -13,7 +13,7 @@ use Rattle.net_values.specs.declared.node_kind.NodeKind.{NodeKind}
 use Rattle.page_flatten.specs.Elements.{elements, entries, Mention, mentions, ReferenceTo, references, arcs}
 use Rattle.page_flatten.specs.Chains.{Resolves}
 
--- no id occurs at two places of the list
+-- no id occurs twice in the list
 abbrev pub AreDistinct : List (List ℕ) → Type 0
 AreDistinct ids = (m n : ℕ) (id : List ℕ) → slice_get ids m ≡ Some id → slice_get ids n ≡ Some id → m ≡ n
 
@@ -93,8 +93,8 @@ pub record IsFirstRepeated (ids : List (List ℕ)) (id : List ℕ) : Type 0 wher
   pub back : List (List ℕ)
   pub occurs : ids ≡ front ++ id ∷ back
   pub before : AreDistinct front
-  pub place : ℕ
-  pub repeated : slice_get front place ≡ Some id
+  pub earlier : ℕ
+  pub repeated : slice_get front earlier ≡ Some id
 
 -- each net has a list, and x is the first member of all of them that doesn't have its net's property: it is the
 -- first one of its net, and the nets before have none
@@ -117,7 +117,7 @@ IsFirstEndlessIn nets reference = IsFirstIn (λ net. flat_map references net.ite
 abbrev pub IsFirstMisjoinedIn : List NetTree → ArcNode → Type 0
 IsFirstMisjoinedIn nets arc = IsFirstIn (λ net. flat_map arcs net.items) (λ net. JoinsPlaceAndTransition net) nets arc
 
--- the first rule that a document breaks, with the ids of the first place in document order that breaks it
+-- the first rule that a document breaks, with the ids of the first element in document order that breaks it
 abbrev pub FirstBroken : Document → FlatFault → Type 0
 FirstBroken document NoMemory = ⊥
 FirstBroken document (DuplicateId id) = IsFirstRepeated (ids_in document.nets) id

@@ -16,7 +16,7 @@ use Rattle.page_flatten.specs.declared.links.Link.{Link}
 use Rattle.page_flatten.specs.declared.links.Link.TheVariants.{Apart, Ends, Leads}
 use Rattle.page_flatten.specs.declared.links.End.TheVariants.{AtPlace, AtTransition}
 use Rattle.page_flatten.specs.declared.fault.FlatFault.{FlatFault}
-use Rattle.page_flatten.specs.declared.fault.FlatFault.TheVariants.{NoMemory, DuplicateId, UnknownId, RefKind, RefCycle, ArcEnds, NoNet}
+use Rattle.page_flatten.specs.declared.fault.FlatFault.TheVariants.{NoMemory, DuplicateId, UnknownId, RefKind, RefCycle, ArcEnds}
 use Rattle.page_flatten.specs.Elements.{Element, Role, NoNode, Real, Reference, Mention, ReferenceTo, elements, entries}
 use Rattle.page_flatten.specs.Chains.{Resolves}
 use Rattle.page_flatten.specs.Rules.{IsKnown, NamesItsKind, IsPlaceAndTransition, IsFirstWithout}

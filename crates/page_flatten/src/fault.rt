@@ -3,8 +3,8 @@ ghost use Rattle.std.specs.Prelude.{◌≡◌};
 use net_values::{NoMemory, Text};
 
 /// Why a document represents no flat net of a number: the first of the five rules that it breaks,
-/// with ids of the first place in document order that breaks it, or that it has no net of that
-/// number, or out of memory.
+/// with the ids of the first element in document order that breaks it, or that it has no net of
+/// that number, or out of memory.
 #[derive(Drop)]
 pub enum FlatFault {
     /// The system refused memory.

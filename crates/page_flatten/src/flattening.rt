@@ -14,7 +14,7 @@ use crate::links::{Link, Links};
 use crate::nodes::net_of_nodes;
 use crate::numbered::numbered_nets;
 use crate::numbers::Numbers;
-use crate::rules::{check_all_kinds, check_all_mentions};
+use crate::rules::{NameRule, check_names};
 use net_values::{Document, FlatNet, List, NetTree, Nets};
 use std::alloc::Global;
 
@@ -44,8 +44,8 @@ pub fn flatten(alloc: Global, document: &Document, net: usize) -> Result<FlatNet
         Ok(tables) => tables,
         Err(fault) => return Err(fault),
     };
-    check_all_mentions(alloc, nets, &tables)?;
-    check_all_kinds(alloc, nets, &tables)?;
+    check_names(alloc, nets, &tables, NameRule::Mentions)?;
+    check_names(alloc, nets, &tables, NameRule::Kinds)?;
     let links = settle_all(alloc, nets, &tables)?;
     chosen_net(alloc, nets, &tables, &links, net)
 }

@@ -1,45 +1,78 @@
 ghost use Rattle.std.specs.Prelude.{◌∷◌, [], MatchBool, OnOk, IfErr};
 ghost use Rattle.std.specs.List.{AllByRecursion, flat_map};
 ghost use Rattle.page_flatten.specs.Elements.{mentions, references, reference_of};
-ghost use Rattle.page_flatten.specs.Rules.{AreDistinct, MentionsNodes, KeepsKinds, NamesNode, IsKnown, NamesItsKind};
+ghost use Rattle.page_flatten.specs.Rules.{AreDistinct, NamesNode, IsKnown, NamesItsKind};
 ghost use Rattle.page_flatten.specs.Tables.{table_ids, IsFirstUnknown, IsFirstOfWrongKind};
-ghost use Rattle.page_flatten.specs.Passes.{AreNumbered, NamesUnknown, NamesWrongKind};
+ghost use Rattle.page_flatten.specs.Names.{looked, IsKept, IsFirstBreaking, KeepsRule, NamesBroken};
+ghost use Rattle.page_flatten.specs.Passes.{AreNumbered};
 
 use crate::fault::FlatFault;
 use crate::numbers::Numbers;
 use net_values::{Item, List, Nets, NodeKind, RefNode, Text};
 use std::alloc::Global;
 
-/// Refuses the first `ref`, `source` or `target` that is the id of no node of its net.
-pub fn check_all_mentions(
+/// The two rules on the ids that items name.
+#[derive(Clone, Copy)]
+pub enum NameRule {
+    /// Each `ref`, `source` and `target` is the id of a node of its net.
+    Mentions,
+    /// Each reference node names a node of its own kind.
+    Kinds,
+}
+
+/// Refuses the first name in the document that breaks the rule.
+pub fn check_names(
     alloc: Global,
     nets: &Nets,
     tables: &List<Numbers<'_>>,
+    rule: NameRule,
 ) -> Result<(), FlatFault>
     requires { AreNumbered nets.now tables.now }
-    ensures ok { OnOk result (AllByRecursion MentionsNodes nets.now) }
-    ensures fault { IfErr result (NamesUnknown nets.now) }
+    ensures ok { OnOk result (AllByRecursion (KeepsRule rule) nets.now) }
+    ensures fault { IfErr result (NamesBroken rule nets.now) }
 {
     for k in 0..nets.len() {
-        check_mentions(alloc, nets.get(k).items.as_slice(), tables.get(k))?;
+        check_items(alloc, nets.get(k).items.as_slice(), tables.get(k), rule)?;
     }
     Ok(())
 }
 
 /// The same for the items of a net.
-fn check_mentions(alloc: Global, items: &[Item], numbers: &Numbers<'_>) -> Result<(), FlatFault>
+fn check_items(
+    alloc: Global,
+    items: &[Item],
+    numbers: &Numbers<'_>,
+    rule: NameRule,
+) -> Result<(), FlatFault>
     requires { AreDistinct (table_ids numbers.now) }
-    ensures ok { OnOk result (AllByRecursion (IsKnown numbers.now) (flat_map mentions items.now)) }
-    ensures fault { IfErr result (IsFirstUnknown numbers.now (flat_map mentions items.now)) }
+    ensures ok { OnOk result (AllByRecursion (IsKept rule numbers.now) (flat_map (looked rule) items.now)) }
+    ensures fault { IfErr result (IsFirstBreaking rule numbers.now (flat_map (looked rule) items.now)) }
 {
     for item in items {
-        check_mentions_of(alloc, item, numbers)?;
+        check_item(alloc, item, numbers, rule)?;
     }
     Ok(())
 }
 
+/// The same for an item.
+fn check_item(
+    alloc: Global,
+    item: &Item,
+    numbers: &Numbers<'_>,
+    rule: NameRule,
+) -> Result<(), FlatFault>
+    requires { AreDistinct (table_ids numbers.now) }
+    ensures ok { OnOk result (AllByRecursion (IsKept rule numbers.now) (looked rule item.now)) }
+    ensures fault { IfErr result (IsFirstBreaking rule numbers.now (looked rule item.now)) }
+{
+    match rule {
+        NameRule::Mentions => check_mentions(alloc, item, numbers),
+        NameRule::Kinds => check_reference(alloc, item, numbers),
+    }
+}
+
 /// Refuses the first id that an item mentions and that is the id of no node.
-fn check_mentions_of(alloc: Global, item: &Item, numbers: &Numbers<'_>) -> Result<(), FlatFault>
+fn check_mentions(alloc: Global, item: &Item, numbers: &Numbers<'_>) -> Result<(), FlatFault>
     requires { AreDistinct (table_ids numbers.now) }
     ensures ok { OnOk result (AllByRecursion (IsKnown numbers.now) (mentions item.now)) }
     ensures fault { IfErr result (IsFirstUnknown numbers.now (mentions item.now)) }
@@ -73,37 +106,8 @@ fn check_mention(
     }
 }
 
-/// Refuses the first reference node that names a node of the other kind.
-pub fn check_all_kinds(
-    alloc: Global,
-    nets: &Nets,
-    tables: &List<Numbers<'_>>,
-) -> Result<(), FlatFault>
-    requires { AreNumbered nets.now tables.now }
-    ensures ok { OnOk result (AllByRecursion KeepsKinds nets.now) }
-    ensures fault { IfErr result (NamesWrongKind nets.now) }
-{
-    for k in 0..nets.len() {
-        check_kinds(alloc, nets.get(k).items.as_slice(), tables.get(k))?;
-    }
-    Ok(())
-}
-
-/// The same for the items of a net.
-fn check_kinds(alloc: Global, items: &[Item], numbers: &Numbers<'_>) -> Result<(), FlatFault>
-    requires { AreDistinct (table_ids numbers.now) }
-    ensures ok { OnOk result
-        (AllByRecursion (NamesItsKind numbers.now) (flat_map references items.now)) }
-    ensures fault { IfErr result (IsFirstOfWrongKind numbers.now (flat_map references items.now)) }
-{
-    for item in items {
-        check_kind_of(alloc, item, numbers)?;
-    }
-    Ok(())
-}
-
 /// Refuses an item that is a reference node and names a node of the other kind.
-fn check_kind_of(alloc: Global, item: &Item, numbers: &Numbers<'_>) -> Result<(), FlatFault>
+fn check_reference(alloc: Global, item: &Item, numbers: &Numbers<'_>) -> Result<(), FlatFault>
     requires { AreDistinct (table_ids numbers.now) }
     ensures ok { OnOk result (AllByRecursion (NamesItsKind numbers.now) (references item.now)) }
     ensures fault { IfErr result (IsFirstOfWrongKind numbers.now (references item.now)) }

@@ -1,10 +1,10 @@
 -- Each net is settled by its own table.
-use Rattle.std.proofs.Common.{◌≡◌, ◌∙◌, sym, ap, subst, arith}
+use Rattle.std.proofs.Common.{arith}
 use Rattle.page_flatten.specs.Rules.{EndsChains, MentionsNodes, KeepsKinds}
 use Rattle.page_flatten.specs.Passes.{HasEntries, NamesEndless}
 use Rattle.page_flatten.specs.Tables.{AreSettled}
 use Rattle.page_flatten.proofs.FaultLaws.{err_goes}
-use Rattle.page_flatten.proofs.NetLists.{each_more, each_all, each_at, zip_at, zip_more, zip_all, zip_length, distinct_at}
+use Rattle.page_flatten.proofs.NetLists.{each_more, each_at, zip_at, zip_more, zip_length, distinct_at}
 use Rattle.page_flatten.proofs.NetFaults.{endless_in}
 use Rattle.page_flatten.proofs.chains.settle_all.Goals as goal
 

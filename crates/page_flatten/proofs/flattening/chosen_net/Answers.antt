@@ -1,10 +1,10 @@
 -- Each net is flattened by its own table and links, and the one of the number is kept.
-use Rattle.std.proofs.Common.{◌≡◌, ◌∙◌, sym, ap, subst, arith}
+use Rattle.std.proofs.Common.{arith}
 use Rattle.page_flatten.specs.Rules.{JoinsArcs}
 use Rattle.page_flatten.specs.Passes.{HasEntries, FitsLimits, NamesMisjoined}
 use Rattle.page_flatten.specs.Tables.{AreSettled}
 use Rattle.page_flatten.proofs.FaultLaws.{err_goes}
-use Rattle.page_flatten.proofs.NetLists.{each_more, each_all, each_at, zip_at, zip_length, distinct_at}
+use Rattle.page_flatten.proofs.NetLists.{each_more, each_at, zip_at, zip_length, distinct_at}
 use Rattle.page_flatten.proofs.NetFaults.{misjoined_in}
 use Rattle.page_flatten.proofs.NetChoice.{chosen_here, chosen_elsewhere}
 use Rattle.page_flatten.proofs.flattening.chosen_net.Goals as goal

@@ -1,5 +1,5 @@
 -- The only net is all nets.
-use Rattle.std.proofs.Common.{◌≡◌, ◌∙◌, ap, List, ℕ, subst, sym, [], ◌∷◌, IfOk, IfErr}
+use Rattle.std.proofs.Common.{◌∙◌, ap, List, ℕ, subst, sym, IfOk, IfErr}
 use Rattle.std.proofs.lemmas.List.{append-nil}
 use Rattle.net_values.specs.declared.document.NetTree.{NetTree}
 use Rattle.page_flatten.specs.Rules.{ids_in, ids_of}

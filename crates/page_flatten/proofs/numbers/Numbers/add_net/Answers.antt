@@ -1,11 +1,11 @@
 -- The net is the first element, and each item begins the next one, if it begins any.
-use Rattle.std.proofs.Common.{◌≡◌, subst, List, length, get_or, ◌<◌, ◌≤◌, ◌++◌}
+use Rattle.std.proofs.Common.{◌≡◌, subst, List, length, get_or, ◌<◌, ◌++◌}
 use Rattle.net_values.specs.declared.document.Item.{Item}
 use Rattle.page_flatten.specs.Passes.{NamesRepeated}
 use Rattle.page_flatten.specs.Rules.{ids_of}
 use Rattle.page_flatten.specs.Tables.{table_ids}
 use Rattle.page_flatten.proofs.FaultLaws.{err_goes}
-use Rattle.page_flatten.proofs.NumberLaws.{numbers_none, numbers_more, numbers_all, repeated_item, repeated_first}
+use Rattle.page_flatten.proofs.NumberLaws.{numbers_none, numbers_more, repeated_item, repeated_first}
 use Rattle.page_flatten.proofs.numbers.Numbers.add_net.Goals as goal
 
 pub loop-item-init : goal.loop-item-init
