@@ -41,16 +41,16 @@ all_narrow net rows n kept size narrow least = record {
   ];
 }
 
--- one row more, read through the slices that the calls take
-pub bounded_more : (net : Net) (rows : List (List ℕ)) (n : ℕ) (old new : List (Option PlaceBound)) → AreBounded net rows n old → (row : List ℕ) → n < length rows → row ≡ get_or rows n row → (first second : List ℕ) → first ≡ row → second ≡ row → (tokens : ℕ) → (weighted_tokens net (slice_index first) net.initial < 2 ^ 127) × (tokens ≡ weighted_tokens net (slice_index first) net.initial) → length new ≡ length old → ((p : ℕ) → p < length new → kept_at new p ≡ tightened (kept_at old p) (slice_index second p) tokens n) → AreBounded net rows (n + 1) new
-bounded_more net rows n old new h row within row_is first second first_is second_is tokens told size tightens =
+-- one row more
+pub bounded_more : (net : Net) (rows : List (List ℕ)) (n : ℕ) (old new : List (Option PlaceBound)) → AreBounded net rows n old → (row : List ℕ) → n < length rows → row ≡ get_or rows n row → (tokens : ℕ) → (weighted_tokens net (slice_index row) net.initial < 2 ^ 127) × (tokens ≡ weighted_tokens net (slice_index row) net.initial) → length new ≡ length old → ((p : ℕ) → p < length new → kept_at new p ≡ tightened (kept_at old p) (slice_index row p) tokens n) → AreBounded net rows (n + 1) new
+bounded_more net rows n old new h row within row_is tokens told size tightens =
     let at : row ≡ get_or rows n [] = row_is ∙ get_or_default rows n row [] within in
-    let tokens_is : tokens ≡ tokens_of net rows n = told.1 ∙ ap (λ (r : List ℕ). weighted_tokens net (slice_index r) net.initial) (first_is ∙ at) in
-    let narrow : tokens_of net rows n < 2 ^ 127 = subst (λ (r : List ℕ). weighted_tokens net (slice_index r) net.initial < 2 ^ 127) (first_is ∙ at) told.0 in
+    let tokens_is : tokens ≡ tokens_of net rows n = told.1 ∙ ap (λ (r : List ℕ). weighted_tokens net (slice_index r) net.initial) at in
+    let narrow : tokens_of net rows n < 2 ^ 127 = subst (λ (r : List ℕ). weighted_tokens net (slice_index r) net.initial < 2 ^ 127) at told.0 in
     let narrows = below_more n (λ k. tokens_of net rows k < 2 ^ 127) h.narrow narrow in
     let least = λ (p : ℕ) (under : p < net.places).
     let same : kept_at new p ≡ tightened (kept_at old p) (row_at rows n p) (tokens_of net rows n) n =
-    tightens p (omega (arith, h.size)) ∙ ap (λ (r : List ℕ). tightened (kept_at old p) (slice_index r p) tokens n) (second_is ∙ at) ∙ ap (λ (k : ℕ). tightened (kept_at old p) (row_at rows n p) k n) tokens_is in
+    tightens p (omega (arith, h.size)) ∙ ap (λ (r : List ℕ). tightened (kept_at old p) (slice_index r p) tokens n) at ∙ ap (λ (k : ℕ). tightened (kept_at old p) (row_at rows n p) k n) tokens_is in
     subst (IsLeastOfRows net rows (n + 1) p) (sym same) (row_more net rows p n (kept_at old p) (h.least p under))
     in
     record {

@@ -1,3 +1,4 @@
 pub mod Sums
 pub mod OfRows
 pub mod AllPlaces
+pub mod Tightening

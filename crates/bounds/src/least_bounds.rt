@@ -37,10 +37,10 @@ pub fn bounds(alloc: Global, net: &FlatNet, rows: &Rows) -> Result<Bounds, Bound
         return Err(BoundFault::NoMemory);
     };
     for (number, row) in rows.as_slice().iter().enumerate() {
-        let Ok(tokens) = initial_tokens(net, row.as_slice()) else {
+        let Ok(tokens) = initial_tokens(net, row) else {
             return Err(BoundFault::WideBound(number));
         };
-        tighten_all(bounds.as_mut_slice(), row.as_slice(), tokens, number);
+        tighten_all(bounds.as_mut_slice(), row, tokens, number);
     }
     Ok(Bounds { bounds })
 }

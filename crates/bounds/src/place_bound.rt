@@ -1,6 +1,8 @@
 ghost use Rattle.std.specs.Prelude.{◌≡◌, ℕ, ◌<◌, length, slice_index};
 ghost use Rattle.bounds.specs.Listed.{kept_at, tightened};
 
+use net_values::Vector;
+
 /// A bound of a place, and the number of the row that gives it.
 #[derive(Clone, Copy, Debug, PartialEq, Eq)]
 pub struct PlaceBound {
@@ -11,7 +13,7 @@ pub struct PlaceBound {
 /// Puts the bound of a row with these weighted tokens in each place where it is below the one that is kept.
 pub(crate) fn tighten_all(
     kept: &mut [Option<PlaceBound>],
-    entries: &[u128],
+    entries: &Vector,
     tokens: u128,
     row: usize,
 )
@@ -19,8 +21,9 @@ pub(crate) fn tighten_all(
     ensures { (p : ℕ) → p < length kept.new →
         kept_at kept.new p ≡ tightened (kept_at kept.old p) (slice_index entries.now p) tokens row }
 {
-    for p in 0..entries.len() {
-        tighten(&mut kept[p], entries[p], tokens, row);
+    let mut walk = entries.walk();
+    'places: while let Some((p, entry)) = walk.next() {
+        tighten(&mut kept[p], entry, tokens, row);
     }
 }
 

@@ -94,10 +94,9 @@ fn bounds_place(net: &FlatNet, y: &Vector, place: usize, bound: i128) -> bool
     ensures { MatchBool result (BoundsPlace (net_of net.now) (slice_index y.now) place bound)
         (BoundsPlace (net_of net.now) (slice_index y.now) place bound → ⊥) }
 {
-    let coefficients = y.as_slice();
-    match initial_tokens(net, coefficients) {
-        Ok(tokens) => coefficients[place] > 0
-            && tokens / coefficients[place] <= bound.unsigned_abs(),
+    let coefficient = y.entry_at(place);
+    match initial_tokens(net, y) {
+        Ok(tokens) => coefficient > 0 && tokens / coefficient <= bound.unsigned_abs(),
         Err(_) => false,
     }
 }

@@ -18,7 +18,7 @@ pub fn flow_holds(net: &FlatNet, flow: &[(u32, i128)], y: &mut Vector) -> bool
         return false;
     }
     load(flow, y);
-    is_balanced(net, y) && initial_tokens(net, y.as_slice()).is_ok()
+    is_balanced(net, y) && initial_tokens(net, y).is_ok()
 }
 
 /// Whether each place of the flow is below the number of places.

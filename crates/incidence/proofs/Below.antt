@@ -105,3 +105,15 @@ pub narrow_part : (total factor amount left before whole sum : ℕ) → amount �
 narrow_part total factor amount left before whole sum left_is total_is part whole_is narrow =
     let same : factor * amount ≡ factor * left = ap (λ z. factor * z) left_is in
     omega arith
+
+-- terms of 0 add nothing
+pub below_gap : (from to : ℕ) (f : ℕ → ℕ) → from ≤ to → ((i : ℕ) → from ≤ i → i < to → f i ≡ 0) → sum_below to f ≡ sum_below from f
+below_gap from zero f order none = ap (λ (n : ℕ). sum_below n f) (let same : 0 ≡ from = omega arith in same)
+below_gap from (suc to) f order none =
+    elim (cases_eq from (suc to)) [
+      | inl same ↦ ap (λ (n : ℕ). sum_below n f) (sym same)
+      | inr other ↦
+          let rest : sum_below to f ≡ sum_below from f = below_gap from to f (omega arith) (λ i late under. none i late (omega arith)) in
+          let last : f to ≡ 0 = none to (omega arith) (omega arith) in
+          omega arith
+    ]

@@ -1,17 +1,15 @@
 -- The tables of an incidence with a row per transition more. Past the rows of a table every amount is 0, so what is added
 -- there is all that is there.
-use Rattle.std.proofs.Common.{◌≡◌, ◌≢◌, refl, sym, ap, ◌∙◌, subst, ℕ, suc, ◌+◌, ◌*◌, ◌-◌, ◌^◌, ◌<◌, ◌≤◌, ◌==◌, ◌&&◌, cond, if◌then◌else◌, Bool, true, false, ltb, List, length, All, get_or, inl, inr, arith}
+use Rattle.std.proofs.Common.{◌≡◌, refl, sym, ap, ◌∙◌, subst, ℕ, ◌+◌, ◌*◌, ◌^◌, ◌<◌, ◌≤◌, ◌==◌, ◌&&◌, if◌then◌else◌, true, false, length, inl, inr, arith}
 use Rattle.std.specs.Prelude.{nat_lt}
 use Rattle.std.proofs.lemmas.Bool.{cases_lt, cases_eq}
 use Rattle.std.proofs.lemmas.Bool.Decides.{nat_tests}
-use Rattle.net_values.specs.declared.limits.TheConstants.{MAX_ENTRIES, MAX_PLACES, MAX_TRANSITIONS}
 use Rattle.net_values.specs.FlatNets.{NetLists, net_of, IsFlatNet}
 use Rattle.net_values.specs.Net.{Net}
-use Rattle.incidence.specs.declared.sparse.Amount.{Amount}
 use Rattle.incidence.specs.declared.side.Side.TheVariants.{Gain, Loss}
 use Rattle.incidence.specs.Excess.{IsSide, AddsUnits}
-use Rattle.incidence.specs.Matrix.{Matrix, unit_at, extended_of}
-use Rattle.incidence.specs.Tables.{Table, Tables, IsTable, IsIncidence, AddsAt, at, amount_at, part_at, column_at, matrix_of}
+use Rattle.incidence.specs.Matrix.{unit_at, extended_of}
+use Rattle.incidence.specs.Tables.{Table, IsTable, IsIncidence, AddsAt, at, part_at, column_at, matrix_of}
 use Rattle.incidence.proofs.Below.{sum_none, zero_product}
 use Rattle.incidence.proofs.TableLemmas.{apart, equal_matrices}
 

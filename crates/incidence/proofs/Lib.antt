@@ -4,3 +4,4 @@ pub mod Entries
 pub mod TableLemmas
 pub mod SumLemmas
 pub mod Extending
+pub mod WalkedSums

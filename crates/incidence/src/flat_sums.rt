@@ -15,7 +15,7 @@ pub fn net_sums(net: &FlatNet, y: &Vector, column: usize) -> Result<(i128, i128)
     ensures { let m = incidence_of (net_of net.now) in
         OkIff result (AreNarrow m column (slice_index y.now)) (pos (gain_sum m column (slice_index y.now)), pos (loss_sum m column (slice_index y.now))) }
 {
-    let gain = Side::Gain.weighted_sum(net, y.as_slice(), column)?;
-    let loss = Side::Loss.weighted_sum(net, y.as_slice(), column)?;
+    let gain = Side::Gain.weighted_sum(net, y, column)?;
+    let loss = Side::Loss.weighted_sum(net, y, column)?;
     Ok((gain as i128, loss as i128))
 }

@@ -110,8 +110,8 @@ impl Incidence {
         ensures { let m = matrix_of self.now in
             OkIff result (AreNarrow m column (slice_index y.now)) (pos (gain_sum m column (slice_index y.now)), pos (loss_sum m column (slice_index y.now))) }
     {
-        let gain = self.gains.weighted_sum(y.as_slice(), column)?;
-        let loss = self.losses.weighted_sum(y.as_slice(), column)?;
+        let gain = self.gains.weighted_sum(y, column)?;
+        let loss = self.losses.weighted_sum(y, column)?;
         Ok((gain as i128, loss as i128))
     }
 }

@@ -5,7 +5,7 @@ ghost use Rattle.incidence.specs.Sums.{sum_below};
 
 use crate::sparse::SparseTable;
 use crate::wide_sum::{WideSum, add_product};
-use net_values::{FlatNet, NoMemory, WeightedPlace};
+use net_values::{FlatNet, NoMemory, Vector, WeightedPlace};
 use std::alloc::Global;
 
 /// What a transition gives beyond what it takes, or what it takes beyond what it gives.
@@ -44,7 +44,7 @@ impl Side {
     }
 
     /// The sum of the excess of a transition over the places, each times the factor of its place.
-    pub fn weighted_sum(self, net: &FlatNet, factors: &[u128], t: usize) -> Result<u128, WideSum>
+    pub fn weighted_sum(self, net: &FlatNet, factors: &Vector, t: usize) -> Result<u128, WideSum>
         requires factors { length factors.now ≡ (net_of net.now).places }
         requires transition { t < (net_of net.now).transitions }
         ensures { let sum = sum_below (net_of net.now).places (λ p. slice_index factors.now p * excess_of self (net_of net.now) p t) in
@@ -54,7 +54,7 @@ impl Side {
         let mut total = 0;
         for arc in arcs {
             let excess = self.excess(net, arc.place, t, arc.weight);
-            total = add_product(total, factors[arc.place], excess)?;
+            total = add_product(total, factors.entry_at(arc.place), excess)?;
         }
         Ok(total)
     }

@@ -4,7 +4,7 @@ ghost use Rattle.incidence.specs.Sums.{sum_below};
 ghost use Rattle.incidence.specs.Tables.{IsTable, AddsAt, AddsRow, IsTurned, amount_at, at, column_at};
 
 use crate::wide_sum::{WideSum, add_product};
-use net_values::{List, MAX_ENTRIES, NoMemory, PlaceSet};
+use net_values::{List, MAX_ENTRIES, NoMemory, PlaceSet, Vector};
 use std::alloc::Global;
 use std::marker::Model;
 
@@ -138,7 +138,7 @@ impl SparseTable {
     }
 
     /// The sum of the amounts of a column, each times the factor of its row.
-    pub fn weighted_sum(&self, factors: &[u128], column: usize) -> Result<u128, WideSum>
+    pub fn weighted_sum(&self, factors: &Vector, column: usize) -> Result<u128, WideSum>
         requires factors { length factors.now ≡ self.now.height }
         requires column { column < length self.now.lists }
         ensures { let sum = sum_below self.now.height (λ i. slice_index factors.now i * at self.now i column) in
@@ -175,14 +175,14 @@ fn mark(amounts: &[Amount], rows: &mut PlaceSet)
 }
 
 /// The sum of the amounts, each times the factor of its row.
-fn weighted_total(amounts: &[Amount], factors: &[u128]) -> Result<u128, WideSum>
+fn weighted_total(amounts: &[Amount], factors: &Vector) -> Result<u128, WideSum>
     requires { All (λ entry. entry.row < length factors.now) amounts.now }
     ensures { let sum = sum_by (λ entry. slice_index factors.now entry.row * entry.amount) amounts.now in
         OkIff result (sum < 2 ^ 127) sum }
 {
     let mut total = 0;
     for entry in amounts {
-        total = add_product(total, factors[entry.row], entry.amount)?;
+        total = add_product(total, factors.entry_at(entry.row), entry.amount)?;
     }
     Ok(total)
 }

@@ -29,3 +29,5 @@ pub mod Carrying
 pub mod CountedSigns
 pub mod Merging
 pub mod Jointly
+pub mod WalkedGcds
+pub mod Summing

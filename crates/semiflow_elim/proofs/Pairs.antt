@@ -1,13 +1,12 @@
 -- A pair's combination: divided by the greatest common divisor of its entries it is a coprime semiflow over one
 -- column more, below the two rows together.
-use Rattle.std.proofs.Common.{◌≡◌, sym, ap, ◌∙◌, subst, ℕ, zero, suc, ◌+◌, ◌-◌, ◌*◌, ◌/◌, ◌^◌, ◌<◌, ◌≤◌, List, [], ◌++◌, length, get_or, slice_index, take, drop, arith}
+use Rattle.std.proofs.Common.{◌≡◌, refl, sym, ap, ◌∙◌, subst, ℕ, zero, suc, ◌+◌, ◌-◌, ◌*◌, ◌/◌, ◌^◌, ◌<◌, ◌≤◌, List, [], length, get_or, map, slice_index, inl, inr, arith}
 use Rattle.std.specs.Int.{◌∣◌, IsGcd}
-use Rattle.std.proofs.lemmas.List.{get_or_default}
+use Rattle.std.proofs.lemmas.Bool.{cases_lt}
+use Rattle.std.proofs.lemmas.List.{get_or_default, get_or-map, get_or_past, length-map}
 use Rattle.std.proofs.lemmas.Nat.{mul-le}
-use Rattle.std.proofs.lemmas.Nat.Gcd.{same_from_IsGcd}
-use Rattle.std.proofs.Math.Seq.{take-append_seam}
-use Rattle.std.proofs.Math.Nat.{pos_of_dvd_of_pos, mul-div_cancel', div-le_self}
-use Rattle.net_values.specs.Vectors.{IsVector}
+use Rattle.std.proofs.lemmas.Nat.Gcd.{le_of_dvd, same_from_IsGcd}
+use Rattle.std.proofs.Math.Nat.{pos_of_dvd_of_pos, mul-div_cancel', div-le_self, zero-div}
 use Rattle.incidence.specs.Matrix.{Matrix}
 use Rattle.incidence.specs.Semiflow.{IsWithin, IsSemiflow}
 use Rattle.semiflow_elim.specs.Arithmetic.{IsScaledSum, IsGcdOfAll}
@@ -16,7 +15,6 @@ use Rattle.semiflow_elim.specs.Bases.{IsGood}
 use Rattle.semiflow_elim.specs.Candidates.{IsCombined, IsNarrowCombination, IsWideCombination, IsStep, sums_of}
 use Rattle.semiflow_elim.specs.Elimination.{IsPair, IsWidePair, IsNarrowPair, row_of, surplus, deficit, combination}
 use Rattle.semiflow_elim.specs.Merged.{IsCombinedBy}
-use Rattle.semiflow_elim.specs.declared.merged.Multiples.{Multiples}
 use Rattle.semiflow_elim.specs.declared.signs.RowSums.{RowSums}
 use Rattle.semiflow_elim.proofs.CandidateLemmas.{Extends, pair_semiflow, divided_semiflow, divided_coprime, zero_factor, product_positive}
 
@@ -35,42 +33,38 @@ divisor_positive x y r s p d sums divisor some positive =
     let product = product_positive x (slice_index r some.0) positive some.2 in
     pos_of_dvd_of_pos (divisor.divides some.0 some.1) (omega arith)
 
--- the slices that the code reads are the lists that it was given
-pub combined_is : (r r' s s' p p' before after : List ℕ) (a b g d : ℕ) (by : Multiples) → by.first ≡ b / g → by.second ≡ a / g → by.divisor ≡ d → IsGcd a b g → r' ≡ r → s' ≡ s → IsScaledSum (b / g) r' (a / g) s' (length r') p → p' ≡ p → IsGcdOfAll p' (length p') d → before ≡ p → length after ≡ length before → ((i : ℕ) → slice_index after i ≡ slice_index before i / d) → IsCombinedBy r s a b after by
-combined_is r r' s s' p p' before after a b g d by first second quotient gcd r_is s_is sums p_is divisor before_is size entries =
-    let sums_r : IsScaledSum (b / g) r (a / g) s' (length r) p = subst (λ (l : List ℕ). IsScaledSum (b / g) l (a / g) s' (length l) p) r_is sums in
-    let sums_s : IsScaledSum (b / g) r (a / g) s (length r) p = subst (λ (l : List ℕ). IsScaledSum (b / g) r (a / g) l (length r) p) s_is sums_r in
-    let whole : IsGcdOfAll p (length p) d = subst (λ (l : List ℕ). IsGcdOfAll l (length l) d) p_is divisor in
-    record {
-      combined = record {
-        g = g;
-        gcd = gcd;
-        sums = p;
-        sums_are = sums_s;
-        divisor = d;
-        divisor_is = subst (λ (n : ℕ). IsGcdOfAll p n d) sums_s.size whole;
-        size = size ∙ ap length before_is ∙ sums_s.size;
-        entries = λ i. entries i ∙ ap (λ (l : List ℕ). slice_index l i / d) before_is;
-      };
-      first = first;
-      second = second;
-      divisor = quotient;
-    }
+divided_entry : (sum : List ℕ) (d i : ℕ) → slice_index (map (λ entry. entry / d) sum) i ≡ slice_index sum i / d
+divided_entry sum d i =
+    elim (cases_lt i (length sum)) [
+      | inl under ↦ get_or-map (λ entry. entry / d) sum i 0 0 under
+      | inr past ↦ get_or_past (map (λ entry. entry / d) sum) i 0 (omega (arith, length-map sum (λ entry. entry / d))) ∙ sym (ap (λ (e : ℕ). e / d) (get_or_past sum i 0 past) ∙ zero-div d)
+    ]
 
-pub combined_vector : (r s row : List ℕ) (a b : ℕ) → IsCombined r s a b row → IsVector r → IsVector row
-combined_vector r s row a b h vector = record {
-  short = let size = h.size in let bound = vector.short in omega arith;
-  narrow = λ k d within.
-      let read : get_or row k d ≡ slice_index row k = get_or_default row k d 0 within in
-      let entry : slice_index row k ≡ slice_index h.sums k / h.divisor = h.entries k in
-      let less : slice_index h.sums k / h.divisor ≤ slice_index h.sums k = div-le_self (slice_index h.sums k) h.divisor in
-      let size = h.size in
-      let narrow : slice_index h.sums k < 2 ^ 127 = h.sums_are.narrow k (omega arith) in
-      omega arith;
+-- the sum of the multiples divided by the greatest common divisor of its entries is the combination
+pub combined_is : (r s sum row : List ℕ) (a b g d : ℕ) → IsGcd a b g → IsScaledSum (b / g) r (a / g) s (length r) sum → IsGcdOfAll sum (length sum) d → row ≡ map (λ entry. entry / d) sum → IsCombinedBy r s a b row record { first = b / g; second = a / g; divisor = d }
+combined_is r s sum row a b g d gcd sums divisor is = record {
+  combined = record {
+    g = g;
+    gcd = gcd;
+    sums = sum;
+    sums_are = sums;
+    divisor = d;
+    divisor_is = subst (λ (n : ℕ). IsGcdOfAll sum n d) sums.size divisor;
+    size = ap length is ∙ length-map sum (λ entry. entry / d) ∙ sums.size;
+    entries = λ i. ap (λ (l : List ℕ). slice_index l i) is ∙ divided_entry sum d i;
+  };
+  first = refl;
+  second = refl;
+  divisor = refl;
 }
 
-pub taken : {X : Type 0} (after items : List X) (len : ℕ) → len ≡ length after → take len (after ++ drop (length after) items) ≡ after
-taken after items len is = ap (λ (n : ℕ). take n (after ++ drop (length after) items)) is ∙ take-append_seam after (drop (length after) items)
+-- no positive entry is below a divisor of all
+pub divisor_least : (sum : List ℕ) (d i : ℕ) → IsGcdOfAll sum (length sum) d → 0 < slice_index sum i → d ≤ slice_index sum i
+divisor_least sum d i divisor some =
+    elim (cases_lt i (length sum)) [
+      | inl under ↦ le_of_dvd some (divisor.divides i under)
+      | inr past ↦ let none = get_or_past sum i 0 past in absurd (omega arith)
+    ]
 
 either_positive : (x r y s : ℕ) → 0 < x * r + y * s → 0 < r + s
 either_positive x zero y zero some = absurd (omega arith)
@@ -212,8 +206,3 @@ formed_narrow r s p a b g gcd sums h other i under =
     let narrow = sums.narrow i under in
     let here : (b / g) * slice_index r i + (a / g) * slice_index s i < 2 ^ 127 = omega arith in
     subst (λ (z : ℕ). (b / z) * slice_index r i + (a / z) * slice_index s i < 2 ^ 127) same here
-
--- the slices that the code reads are the rows
-pub read_narrow : (r r' s s' p : List ℕ) (a b g : ℕ) → r' ≡ r → s' ≡ s → IsGcd a b g → IsScaledSum (b / g) r' (a / g) s' (length r') p → IsNarrowCombination r s a b
-read_narrow r r' s s' p a b g r_is s_is gcd sums =
-    subst (λ (l : List ℕ). IsNarrowCombination r l a b) s_is (subst (λ (l : List ℕ). IsNarrowCombination l s' a b) r_is (formed_narrow r' s' p a b g gcd sums))

@@ -2,6 +2,7 @@
 use Rattle.std.specs.Prelude.{◌≡◌, ℕ, ◌+◌, ◌*◌, ◌^◌, ◌<◌, ◌≤◌, nat_lt, Bool, List, length, slice_index}
 use Rattle.std.specs.Int.{◌∣◌}
 use Rattle.net_values.specs.PlaceSets.{has}
+use Rattle.net_values.specs.Vectors.{AreZerosFrom}
 
 -- the first n entries of p are those of x * r + y * s, and none exceeds 2^127 - 1
 pub record IsScaledSum (x : ℕ) (r : List ℕ) (y : ℕ) (s : List ℕ) (n : ℕ) (p : List ℕ) : Type 0 where
@@ -25,9 +26,9 @@ pub record IsUnionOf (r s : List ℕ) (either : List Bool) : Type 0 where
   pub size : length either ≡ length r
   pub members : (i : ℕ) → has either i ≡ nat_lt 0 (slice_index r i + slice_index s i)
 
--- the entries of x * r + y * s were put in from one position on and below another
-pub record IsFilled (x : ℕ) (r : List ℕ) (y : ℕ) (s : List ℕ) (from to : ℕ) (old new : List ℕ) : Type 0 where
-  pub size : length new ≡ length old
-  pub inside : (i : ℕ) → from ≤ i → i < to → slice_index new i ≡ x * slice_index r i + y * slice_index s i
-  pub before : (i : ℕ) → i < from → slice_index new i ≡ slice_index old i
-  pub after : (i : ℕ) → to ≤ i → slice_index new i ≡ slice_index old i
+-- the sums x * r + y * s below a position, and zeros from there on
+pub record IsSummed (x : ℕ) (r : List ℕ) (y : ℕ) (s : List ℕ) (from : ℕ) (sum : List ℕ) : Type 0 where
+  pub size : length sum ≡ length r
+  pub before : (i : ℕ) → i < from → slice_index sum i ≡ x * slice_index r i + y * slice_index s i
+  pub after : AreZerosFrom sum from
+  pub narrow : (i : ℕ) → slice_index sum i < 2 ^ 127

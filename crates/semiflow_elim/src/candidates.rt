@@ -2,7 +2,6 @@ ghost use Rattle.std.specs.Prelude.{◌≡◌, ℕ, ◌+◌, ◌-◌, ◌<◌, �
 ghost use Rattle.std.specs.Prelude.{IfOk, OnOk, IfErr, length, slice_index};
 ghost use Rattle.incidence.specs.Tables.{matrix_of};
 ghost use Rattle.semiflow_elim.specs.Adjacent.{AreJoined};
-ghost use Rattle.semiflow_elim.specs.Arithmetic.{IsUnionOf};
 ghost use Rattle.semiflow_elim.specs.Bases.{in_set};
 ghost use Rattle.semiflow_elim.specs.Carried.{CarryTheirs};
 ghost use Rattle.semiflow_elim.specs.Candidates.{IsNarrowCombination, IsWideCombination, IsStep, sums_of};
@@ -13,12 +12,10 @@ ghost use Rattle.semiflow_elim.specs.Elimination.{IsWidePair, row_of};
 use crate::adjacent::are_adjacent;
 use crate::carried_rows::CarriedRows;
 use crate::merged::{Multiples, merged_sums};
-use crate::row_arithmetic::{
-    RowFault, divide_all, gcd, gcd_of_all, scaled_entry, scaled_sum, sum_of,
-};
+use crate::row_arithmetic::{RowFault, gcd, gcd_of_all, scaled_entry, scaled_sum};
 use crate::signs::RowSums;
 use crate::step::Step;
-use net_values::{NoMemory, PlaceSet, Vector};
+use net_values::Vector;
 use std::alloc::Global;
 
 /// The combinations of all adjacent pairs. No pair may have a wide one, adjacent or not.
@@ -125,7 +122,6 @@ fn join_pair(
         &rows[k],
         first.gain - first.loss,
         second.loss - second.gain,
-        (first.largest, second.largest),
     )?;
     let Ok(sums) = merged_sums(
         alloc,
@@ -168,7 +164,7 @@ fn refuse_wide(
         return Ok(());
     }
     let g = gcd(a, b);
-    let _entries = scaled_sum(alloc, b / g, r.as_slice(), a / g, s.as_slice())?;
+    let _sum = scaled_sum(alloc, b / g, r, a / g, s)?;
     Ok(())
 }
 
@@ -180,21 +176,18 @@ struct Combination {
 }
 
 /// The combination of two rows by their differences `a` and `b`, divided by the greatest common
-/// divisor of its entries. The entries of the two rows don't exceed two numbers.
+/// divisor of its entries.
 fn combined(
     alloc: Global,
     r: &Vector,
     s: &Vector,
     a: u128,
     b: u128,
-    largest: (u128, u128),
 ) -> Result<Combination, RowFault>
     requires alike { length r.now ≡ length s.now }
     requires first { 0 < a }
     requires second { 0 < b }
     requires nonzero { (i : ℕ) × (i < length r.now) × (0 < slice_index r.now i) }
-    requires first_largest { (i : ℕ) → slice_index r.now i ≤ largest.0 }
-    requires second_largest { (i : ℕ) → slice_index s.now i ≤ largest.1 }
     ensures ok { IfOk result (λ combined. IsCombinedBy r.now s.now a b combined.row combined.by) }
     ensures divisor { IfOk result (λ combined. 0 < combined.by.divisor) }
     ensures wide { IfErr result (λ fault. fault ≡ RowFault.Wide →
@@ -203,27 +196,13 @@ fn combined(
     let g = gcd(a, b);
     let first = b / g;
     let second = a / g;
-    let Ok(either) = united(alloc, r, s) else {
-        return Err(RowFault::NoMemory);
-    };
-    let mut entries = sum_of(alloc, first, r, second, s, &either, largest)?;
-    let divisor = gcd_of_all(entries.as_slice());
-    divide_all(entries.as_mut_slice(), divisor);
-    let row = Vector::with_support(entries, either);
+    let mut row = scaled_sum(alloc, first, r, second, s)?;
+    let divisor = gcd_of_all(&row);
+    row.divide(divisor);
     let by = Multiples {
         first,
         second,
         divisor,
     };
     Ok(Combination { row, by })
-}
-
-/// The set of the positions at which one of two rows is positive.
-fn united(alloc: Global, r: &Vector, s: &Vector) -> Result<PlaceSet, NoMemory>
-    requires { length r.now ≡ length s.now }
-    ensures { IfOk result (λ either. IsUnionOf r.now s.now either) }
-{
-    let mut either = r.support().copy(alloc)?;
-    either.unite(s.support());
-    Ok(either)
 }

@@ -19,10 +19,7 @@ fn is_list(rows: &Rows, count: usize, entries: &[Entry]) -> bool {
     };
     rows.len() == count
         && rows.as_slice().iter().enumerate().all(|(number, row)| {
-            row.as_slice()
-                .iter()
-                .enumerate()
-                .all(|(position, entry)| *entry == wanted(number, position))
+            (0..row.len()).all(|position| row.entry_at(position) == wanted(number, position))
         })
 }
 

@@ -11,7 +11,7 @@ loop-number-preserved c =
     let back = written_back c.loop-number.bounds.len new old (search rules) size in
     subst (AreBounded (net_of c.args.net.now) c.args.rows.now (c.loop-number.number + 1)) (sym back)
     (bounded_more (net_of c.args.net.now) c.args.rows.now c.loop-number.number old new c.loop-number.invariant
-    c.row-item.result (search rules) (search rules) c.as_slice.result.now c.as_slice-in-loop-number.result.now c.as_slice.ensures.value c.as_slice-in-loop-number.ensures.value
+    c.row-item.result (search rules) (search rules)
     c.in-Ok-initial_tokens.tokens c.in-Ok-initial_tokens.ensures size (search rules))
 
 pub returns-clause-least : goal.returns-clause-least

@@ -1,11 +1,15 @@
--- the places before p have what the row leaves them, and the others what they had
-use Rattle.std.proofs.Common.{◌≡◌, ℕ, ◌<◌, ◌≤◌, slice_index}
-use Rattle.bounds.specs.Listed.{kept_at, tightened}
+-- the places that were passed have what the row leaves them, and the others what they had
+use Rattle.std.proofs.Common.{◌≡◌, ◌-◌, ◌≤◌, length}
+use Rattle.bounds.proofs.Tightening.{AreTightened}
 use Rattle.bounds.proofs.place_bound.tighten_all.Given as goal
 
-abbrev pub invariant-loop-p : goal.invariant-loop-p
-invariant-loop-p l =
+abbrev pub invariant-places : goal.invariant-places
+invariant-places l =
     record {
-      before : (q : ℕ) → q < l.p → kept_at l.kept q ≡ tightened (kept_at l.fn.kept q) (slice_index l.entries q) l.tokens l.row;
-      after : (q : ℕ) → l.p ≤ q → kept_at l.kept q ≡ kept_at l.fn.kept q;
+      same : l.walk.entries ≡ l.entries;
+      within : l.walk.from ≤ length l.entries;
+      kept : AreTightened l.fn.kept l.kept l.entries l.tokens l.row l.walk.from;
     }
+
+abbrev pub decreases-places : goal.decreases-places
+decreases-places l = length l.entries - l.walk.from

@@ -1,4 +1,4 @@
-use Rattle.std.proofs.Common.{sym, refl, subst, ℕ, ◌<◌, ◌^◌, List, Bool, slice_index}
+use Rattle.std.proofs.Common.{sym, refl, subst, ℕ, ◌<◌, ◌^◌, Bool, slice_index}
 use Rattle.std.specs.Prelude.{MatchBool}
 use Rattle.net_values.specs.FlatNets.{net_of}
 use Rattle.incidence.specs.Invariance.{weighted_tokens}
@@ -13,11 +13,9 @@ returns-then-is_balanced-clause-exact c =
     let net = net_of c.args.net.now in
     let within : LiesWithin net.places c.args.flow.now = subst (λ (n : ℕ). LiesWithin n c.args.flow.now) c.places.ensures.value (c.if-not-lies_within.ensures.0 refl) in
     subst (λ (b : Bool). MatchBool b (FlowHolds net c.args.flow.now) (FlowHolds net c.args.flow.now → ⊥)) (sym c.is_ok.ensures.value)
-    (match_map _ (weighted_tokens net (slice_index c.as_slice.result.now) net.initial < 2 ^ 127) (weighted_tokens net (slice_index c.as_slice.result.now) net.initial < 2 ^ 127 → ⊥) (FlowHolds net c.args.flow.now) (FlowHolds net c.args.flow.now → ⊥)
-    (λ narrow. flow_met net c.args.flow.now (slice_index c.load.new.y) c.load.ensures.vector within c.if-is_balanced.ensures
-    (subst (λ (xs : List ℕ). weighted_tokens net (slice_index xs) net.initial < 2 ^ 127) c.as_slice.ensures.value narrow))
-    (λ wide holds. wide (subst (λ (xs : List ℕ). weighted_tokens net (slice_index xs) net.initial < 2 ^ 127) (sym c.as_slice.ensures.value)
-    (flow_narrow net c.args.flow.now (slice_index c.load.new.y) c.load.ensures.vector holds)))
+    (match_map _ (weighted_tokens net (slice_index c.load.new.y) net.initial < 2 ^ 127) (weighted_tokens net (slice_index c.load.new.y) net.initial < 2 ^ 127 → ⊥) (FlowHolds net c.args.flow.now) (FlowHolds net c.args.flow.now → ⊥)
+    (flow_met net c.args.flow.now (slice_index c.load.new.y) c.load.ensures.vector within c.if-is_balanced.ensures)
+    (λ wide holds. wide (flow_narrow net c.args.flow.now (slice_index c.load.new.y) c.load.ensures.vector holds))
     (ok_decides c.initial_tokens.result _ _ c.initial_tokens.ensures))
 
 pub returns-else-is_balanced-clause-exact : goal.returns-else-is_balanced-clause-exact

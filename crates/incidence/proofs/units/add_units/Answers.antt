@@ -2,7 +2,7 @@
 use Rattle.std.proofs.Common.{◌≡◌, ◌+◌, ◌<◌, ◌^◌, ◌∙◌, subst, sym}
 use Rattle.net_values.specs.FlatNets.{net_of}
 use Rattle.incidence.specs.Tables.{at}
-use Rattle.incidence.proofs.Extending.{unit_fits, no_units}
+use Rattle.incidence.proofs.Extending.{unit_fits}
 use Rattle.incidence.proofs.units.add_units.Goals as goal
 
 pub add-requires-clause-narrow : goal.add-requires-clause-narrow

@@ -1,5 +1,5 @@
 use Rattle.std.proofs.Common.{ℕ, ◌+◌, ◌-◌, ◌*◌, ◌<◌, ◌^◌, rules, arith}
-use Rattle.semiflow_elim.proofs.Pairs.{gcd_positive, largest_narrow, read_narrow}
+use Rattle.semiflow_elim.proofs.Pairs.{gcd_positive, formed_narrow, largest_narrow, quotient_positive}
 use Rattle.semiflow_elim.proofs.candidates.refuse_wide.Goals as goal
 
 pub returns-then-is_ok-clause-narrow : goal.returns-then-is_ok-clause-narrow
@@ -19,4 +19,10 @@ pub returns-clause-narrow : goal.returns-clause-narrow
 returns-clause-narrow c =
     let a : ℕ = c.args.first.gain - c.args.first.loss in
     let b : ℕ = c.args.second.loss - c.args.second.gain in
-    read_narrow c.args.r.now c.as_slice.result.now c.args.s.now c.as_slice-2.result.now c.in_ok-_entries._entries.items a b c.gcd-g.result c.as_slice.ensures.value c.as_slice-2.ensures.value c.gcd-g.ensures c.in_ok-_entries.ensures.ok
+    formed_narrow c.args.r.now c.args.s.now c.in_ok-_sum._sum a b c.gcd-g.result c.gcd-g.ensures c.in_ok-_sum.ensures.ok
+
+pub scaled_sum-requires-clause-first : goal.scaled_sum-requires-clause-first
+scaled_sum-requires-clause-first c = quotient_positive c.gcd-g.result (c.args.second.loss - c.args.second.gain) c.gcd-g.ensures.1 (let negative = c.requires.negative in omega arith)
+
+pub scaled_sum-requires-clause-second : goal.scaled_sum-requires-clause-second
+scaled_sum-requires-clause-second c = quotient_positive c.gcd-g.result (c.args.first.gain - c.args.first.loss) c.gcd-g.ensures.0 (let positive = c.requires.positive in omega arith)

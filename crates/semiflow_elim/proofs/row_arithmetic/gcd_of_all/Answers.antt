@@ -1,32 +1,24 @@
-use Rattle.std.proofs.Common.{ℕ, ◌≡◌, ◌+◌, List, slice_index, inl, inr, subst, arith}
-use Rattle.std.specs.Int.{◌∣◌, IsGcd}
-use Rattle.std.proofs.lemmas.Bool.{cases_lt}
-use Rattle.std.proofs.lemmas.Nat.Gcd.{dvd-zero, dvd_trans}
-use Rattle.std.proofs.Math.Nat.{one-dvd}
-use Rattle.semiflow_elim.specs.Arithmetic.{IsGcdOfAll}
+use Rattle.std.proofs.Common.{◌≤◌, ◌∙◌, ap, length, arith}
+use Rattle.semiflow_elim.proofs.WalkedGcds.{gcd_is_one, gcd_passed, gcd_whole}
 use Rattle.semiflow_elim.proofs.row_arithmetic.gcd_of_all.Goals as goal
 
-gcd_more : (entries : List ℕ) (n g h : ℕ) → IsGcdOfAll entries n g → IsGcd g (slice_index entries n) h → IsGcdOfAll entries (n + 1) h
-gcd_more entries n g h all both = record {
-  divides = λ i under. elim (cases_lt i n) [
-    | inl below ↦ dvd_trans h both.0 (all.divides i below)
-    | inr above ↦ let same : n ≡ i = omega arith in subst (λ (k : ℕ). h ∣ slice_index entries k) same both.1
-  ];
-  greatest = λ d each. both.2 d (all.greatest d (λ i under. each i (omega arith))) (each n (omega arith));
-}
+pub entries-preserved : goal.entries-preserved
+entries-preserved c =
+    let from = c.in-Some.ensures.from in
+    let under = c.in-Some.ensures.next.within in
+    record {
+      same = c.in-Some.ensures.same ∙ c.entries.invariant.same;
+      within = omega (arith, ap length c.entries.invariant.same);
+      gcd = gcd_passed c.args.row.now c.entries.walk c.entries.divisor c.entries.invariant.same c.entries.invariant.gcd _ c.in-Some.entry c.next.new.self.from c.gcd-divisor.result c.in-Some.ensures.next from c.gcd-divisor.ensures;
+    }
 
-pub loop-entry-init : goal.loop-entry-init
-loop-entry-init c = record {
-  divides = λ i under. absurd (omega arith);
-  greatest = λ d each. dvd-zero d;
-}
-
-pub loop-entry-preserved : goal.loop-entry-preserved
-loop-entry-preserved c = gcd_more _ _ _ _ c.loop-entry.invariant c.gcd-divisor.ensures
-
--- 1 divides everything, and what divides all entries divides it already
 pub returns-then-divisor-eq1 : goal.returns-then-divisor-eq1
-returns-then-divisor-eq1 c = record {
-  divides = λ i under. one-dvd _;
-  greatest = λ d each. subst (λ (n : ℕ). d ∣ n) c.if-divisor-eq1.true (c.loop-entry.invariant.greatest d (λ i under. each i (omega arith)));
-}
+returns-then-divisor-eq1 c =
+    let from = c.in-Some.ensures.from in
+    let under = c.in-Some.ensures.next.within in
+    let within : c.next.new.self.from ≤ length c.args.row.now = omega (arith, ap length c.entries.invariant.same) in
+    gcd_is_one c.args.row.now c.next.new.self.from c.gcd-divisor.result within c.if-divisor-eq1.true
+    (gcd_passed c.args.row.now c.entries.walk c.entries.divisor c.entries.invariant.same c.entries.invariant.gcd _ c.in-Some.entry c.next.new.self.from c.gcd-divisor.result c.in-Some.ensures.next from c.gcd-divisor.ensures)
+
+pub returns : goal.returns
+returns c = gcd_whole c.args.row.now c.entries.walk c.entries.divisor c.entries.invariant.same c.entries.invariant.gcd c.entries.invariant.within c.in_default.ensures.next

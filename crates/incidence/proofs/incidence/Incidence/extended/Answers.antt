@@ -1,7 +1,5 @@
 -- The gains with their units and the losses with as many empty rows are the tables of the extended incidence.
-use Rattle.std.proofs.Common.{◌≡◌, ◌∙◌, ap, ◌+◌, ℕ}
-use Rattle.net_values.specs.FlatNets.{net_of}
-use Rattle.incidence.specs.Tables.{Table}
+use Rattle.std.proofs.Common.{◌∙◌, ap, ◌+◌, ℕ}
 use Rattle.incidence.proofs.Extending.{extended_matrix, extended_incidence}
 use Rattle.incidence.proofs.incidence.Incidence.extended.Goals as goal
 

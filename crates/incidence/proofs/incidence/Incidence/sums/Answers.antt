@@ -1,10 +1,10 @@
-use Rattle.std.proofs.Common.{◌≡◌, sym, subst, ℕ, ℤ, pos, to_z, List, ◌*◌, ◌^◌, ◌<◌, slice_index}
+use Rattle.std.proofs.Common.{◌≡◌, sym, subst, ℕ, ℤ, pos, to_z, ◌*◌, ◌^◌, ◌<◌, slice_index}
 use Rattle.std.specs.Int.{w128}
 use Rattle.std.proofs.lemmas.Result.{err_from_is_err_and}
 use Rattle.incidence.specs.Matrix.{AreNarrow, gain_sum, loss_sum}
 use Rattle.incidence.specs.Sums.{sum_below}
 use Rattle.incidence.specs.Tables.{Tables, matrix_of, at}
-use Rattle.incidence.proofs.SumLemmas.{narrow_gains, narrow_losses, sums_given, sum_of_gains}
+use Rattle.incidence.proofs.SumLemmas.{narrow_gains, narrow_losses, sums_given}
 use Rattle.incidence.proofs.incidence.Incidence.sums.Goals as goal
 
 pub returns : goal.returns
@@ -14,12 +14,10 @@ returns c =
     let m = matrix_of tables in
     let j = c.args.column in
     let y = slice_index c.args.y.now in
-    let Gain : List ℕ → Type 0 = λ z. (sum_of_gains m j (slice_index z) < 2 ^ 127) × (c.in_ok-gain.gain ≡ sum_of_gains m j (slice_index z)) in
-    let Loss : List ℕ → Type 0 = λ z. (sum_below inside.losses.height (λ i. slice_index z i * at inside.losses i j) < 2 ^ 127) × (c.in_ok-loss.loss ≡ sum_below inside.losses.height (λ i. slice_index z i * at inside.losses i j)) in
     let High : ℕ → Type 0 = λ height. (sum_below height (λ i. y i * at inside.losses i j) < 2 ^ 127) × (c.in_ok-loss.loss ≡ sum_below height (λ i. y i * at inside.losses i j)) in
     let Both : Tables → Type 0 = λ t. AreNarrow (matrix_of t) j y × (◌≡◌ {A = ℤ × ℤ} (to_z w128 c.in_ok-gain.gain, to_z w128 c.in_ok-loss.loss) (pos (gain_sum (matrix_of t) j y), pos (loss_sum (matrix_of t) j y))) in
     subst Both c.self.view_is
-    (sums_given m j y (λ i. c.self.invariant.apart i j) _ _ (subst Gain c.as_slice.ensures.value c.in_ok-gain.ensures) (subst High c.self.invariant.height (subst Loss c.as_slice-2.ensures.value c.in_ok-loss.ensures)))
+    (sums_given m j y (λ i. c.self.invariant.apart i j) _ _ c.in_ok-gain.ensures (subst High c.self.invariant.height c.in_ok-loss.ensures))
 
 -- a sum that is wide isn't narrow
 pub returns-in_err-gain : goal.returns-in_err-gain
@@ -28,10 +26,9 @@ returns-in_err-gain c =
     let tables : Tables = record { gains = inside.gains; losses = inside.losses } in
     let j = c.args.column in
     let y = slice_index c.args.y.now in
-    let Gain : List ℕ → Type 0 = λ z. sum_of_gains (matrix_of tables) j (slice_index z) < 2 ^ 127 in
     let Narrow : Tables → Type 0 = λ t. AreNarrow (matrix_of t) j y in
     let p = err_from_is_err_and c.from_residual.result c.from_residual.ensures.1 in
-    rw (p.1) (λ narrow. c.in_err-gain.ensures (subst Gain (sym c.as_slice.ensures.value) (narrow_gains (matrix_of tables) j y (λ i. c.self.invariant.apart i j) (subst Narrow (sym c.self.view_is) narrow))))
+    rw (p.1) (λ narrow. c.in_err-gain.ensures (narrow_gains (matrix_of tables) j y (λ i. c.self.invariant.apart i j) (subst Narrow (sym c.self.view_is) narrow)))
 
 pub returns-in_err-loss : goal.returns-in_err-loss
 returns-in_err-loss c =
@@ -40,7 +37,6 @@ returns-in_err-loss c =
     let j = c.args.column in
     let y = slice_index c.args.y.now in
     let High : ℕ → Type 0 = λ height. sum_below height (λ i. y i * at inside.losses i j) < 2 ^ 127 in
-    let Loss : List ℕ → Type 0 = λ z. sum_below inside.losses.height (λ i. slice_index z i * at inside.losses i j) < 2 ^ 127 in
     let Narrow : Tables → Type 0 = λ t. AreNarrow (matrix_of t) j y in
     let p = err_from_is_err_and c.from_residual-in_err-loss.result c.from_residual-in_err-loss.ensures.1 in
-    rw (p.1) (λ narrow. c.in_err-loss.ensures (subst Loss (sym c.as_slice-2.ensures.value) (subst High (sym c.self.invariant.height) (narrow_losses (matrix_of tables) j y (λ i. c.self.invariant.apart i j) (subst Narrow (sym c.self.view_is) narrow)))))
+    rw (p.1) (λ narrow. c.in_err-loss.ensures (subst High (sym c.self.invariant.height) (narrow_losses (matrix_of tables) j y (λ i. c.self.invariant.apart i j) (subst Narrow (sym c.self.view_is) narrow))))

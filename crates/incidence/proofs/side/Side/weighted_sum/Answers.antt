@@ -1,4 +1,4 @@
-use Rattle.std.proofs.Common.{ap, ◌∙◌, subst, ℕ, ◌*◌, ◌^◌, ◌<◌, slice_index, sum_by}
+use Rattle.std.proofs.Common.{ap, sym, ◌∙◌, subst, ℕ, ◌+◌, ◌*◌, ◌^◌, ◌<◌, slice_index, sum_by}
 use Rattle.std.proofs.lemmas.List.{take_all}
 use Rattle.std.proofs.lemmas.List.Sums.{sum_by_more_le}
 use Rattle.std.proofs.lemmas.Result.{err_from_is_err_and}
@@ -19,7 +19,7 @@ returns-in_err-total c =
     let whole = excess_total net.places (λ (p : ℕ). arcs_of c.args.self net p c.args.t) back y arcs c.arcs-arcs.ensures.lists in
     let part = sum_by_more_le (λ (e : WeightedPlace). y e.place * left_of back e) arcs c.loop-arc.arc-index record { place = 0; weight = 0 } c.loop-arc-test.true in
     let p = err_from_is_err_and c.from_residual.result c.from_residual.ensures.1 in
-    rw (p.1) (λ narrow. c.in_err-total.ensures (narrow_part _ _ _ _ _ _ _ c.excess-excess.ensures c.loop-arc.invariant.total part whole narrow))
+    rw (p.1) (λ narrow. c.in_err-total.ensures (subst (λ (x : ℕ). c.loop-arc.total + x * c.excess-excess.result < 2 ^ 127) (sym c.entry_at.ensures.value) (narrow_part _ _ _ _ _ _ _ c.excess-excess.ensures c.loop-arc.invariant.total part whole narrow)))
 
 pub returns : goal.returns
 returns c =
