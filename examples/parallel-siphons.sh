@@ -1,5 +1,5 @@
 #!/bin/sh
-# All minimal siphons of a net, by several processes at once.
+# All minimal siphons of a net, by several processes at once, on several machines if need be.
 #
 #     examples/parallel-siphons.sh [PROCESSES [LEAVES]] < net.pnml
 #
@@ -8,6 +8,10 @@
 # of all runs are joined by sort; the last line is their number. No two runs find the same siphon, and none is lost: the
 # law `trees_of_runs_are_one_search`. PROGRAM names the program, if it isn't bin/pnmlstruct, and NET the number of the net
 # in the document, if it isn't 1.
+#
+# The runs are started by xargs, or by GNU parallel where xargs can't start several at once. Where MACHINES is set, GNU
+# parallel starts them there: it is a list for its option --sshlogin, as `:,ada,bob`, of machines that see this folder,
+# PROGRAM and TMPDIR under the same names; PROCESSES are then for each machine.
 set -eu
 
 here=$(cd "$(dirname "$0")/.." && pwd -P)
@@ -33,6 +37,19 @@ if [ "${1:-}" = --one ]; then
     exit
 fi
 
+# Starts a run for each file, PROCESSES of them at once.
+all_runs() {
+    if [ -n "${MACHINES:-}" ]; then
+        parallel -j "$processes" --halt now,fail=1 --sshlogin "$MACHINES" --env PROGRAM --env NET --env LEAVES --env FOLDER \
+            sh "$script" --one
+    elif echo | xargs -P 1 true 2> /dev/null; then
+        xargs -n 1 -P "$processes" sh "$script" --one
+    else
+        parallel -j "$processes" --halt now,fail=1 sh "$script" --one
+    fi
+}
+
+script=$here/examples/$(basename "$0")
 processes=${1:-4}
 export LEAVES="${2:-1000}"
 FOLDER=$(mktemp -d)
@@ -43,11 +60,7 @@ mkdir "$FOLDER/now" "$FOLDER/next" "$FOLDER/found"
 : > "$FOLDER/now/0"
 
 while [ -n "$(ls "$FOLDER/now")" ]; do
-    if command -v parallel > /dev/null && parallel --version 2> /dev/null | grep -q GNU; then
-        find "$FOLDER/now" -type f | parallel -j "$processes" --halt now,fail=1 sh "$0" --one
-    else
-        find "$FOLDER/now" -type f | xargs -n 1 -P "$processes" sh "$0" --one
-    fi
+    find "$FOLDER/now" -type f | all_runs
     rmdir "$FOLDER/now"
     mv "$FOLDER/next" "$FOLDER/now"
     mkdir "$FOLDER/next"
