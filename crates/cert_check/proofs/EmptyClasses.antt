@@ -11,7 +11,7 @@ use Rattle.certificates.specs.Conditions.{SiphonClass, TreeLineHolds}
 use Rattle.cert_check.specs.Walks.{allowed_in}
 
 module _ (net : Net) (class : SiphonClass) (G : ℕ → Bool) where
-  in_greatest : (S : ℕ → Bool) → IsGreatestSiphon net (allowed_in class) G → IsSiphon net S → Belongs net class.contains class.avoids S → IsWithin net S G
+  pub in_greatest : (S : ℕ → Bool) → IsGreatestSiphon net (allowed_in class) G → IsSiphon net S → Belongs net class.contains class.avoids S → IsWithin net S G
   in_greatest S greatest siphon belongs = greatest.greatest S siphon (λ q below member. not_from_false (class.avoids q) (elim (cases_Bool (class.avoids q)) [
     | inl avoided ↦ absurd (both_ways (S q) (belongs.has_none q below avoided) member)
     | inr free ↦ free

@@ -2,6 +2,7 @@ pub mod Claims
 pub mod Counts
 pub mod Decisions
 pub mod EmptyClasses
+pub mod KnownClasses
 pub mod Lines
 pub mod Matches
 pub mod Moves

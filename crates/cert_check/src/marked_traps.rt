@@ -10,7 +10,7 @@ use crate::line_checks::Rejected;
 use crate::walk::Walk;
 use crate::walk_moves::clear;
 use certificates::PlaceList;
-use closed_sets::{has_marked_trap, is_siphon};
+use closed_sets::{Fallen, has_marked_trap, is_siphon};
 use net_values::{FlatNet, PlaceSet};
 
 /// Checks the line of a siphon without a marked trap.
@@ -20,15 +20,27 @@ pub fn check_bad_siphon(net: &FlatNet, places: &PlaceList, walk: &mut Walk) -> R
     ensures rejected { IfErr result (λ fault. IsFalseLine (net_of net.now) (Certificate.BadSiphon places.now) fault.0) }
     ensures sizes { HasSizes (net_of net.now).places walk.new }
 {
-    if is_bad_siphon(net, places.as_slice(), &mut walk.contained, &mut walk.trap) {
+    if is_bad_siphon(
+        net,
+        places.as_slice(),
+        &mut walk.contained,
+        &mut walk.trap,
+        &mut walk.fallen,
+    ) {
         Ok(())
     } else {
         Err(Rejected(2))
     }
 }
 
-/// Whether the places are of the net, and a siphon that has no marked trap in it. The sets are scratch.
-fn is_bad_siphon(net: &FlatNet, places: &[u32], set: &mut PlaceSet, trap: &mut PlaceSet) -> bool
+/// Whether the places are of the net, and a siphon that has no marked trap in it. The sets and the list are scratch.
+fn is_bad_siphon(
+    net: &FlatNet,
+    places: &[u32],
+    set: &mut PlaceSet,
+    trap: &mut PlaceSet,
+    fallen: &mut Fallen,
+) -> bool
     requires set { length set.old ≡ (net_of net.now).places }
     requires trap { length trap.old ≡ (net_of net.now).places }
     ensures exact { MatchBool result (BadSiphonHolds (net_of net.now) places.now) (BadSiphonHolds (net_of net.now) places.now → ⊥) }
@@ -39,7 +51,7 @@ fn is_bad_siphon(net: &FlatNet, places: &[u32], set: &mut PlaceSet, trap: &mut P
         return false;
     }
     list(places, set);
-    is_siphon(net, set) && !has_marked_trap(net, set, trap)
+    is_siphon(net, set) && !has_marked_trap(net, set, trap, fallen)
 }
 
 /// Whether each of the places is below the number of places.

@@ -44,7 +44,7 @@ fn step(net: &FlatNet, line: TreeLine, walk: &mut Walk) -> bool
         TreeLine::Empty => pass(net, is_empty_class(net, walk), walk),
         TreeLine::Trap => pass(
             net,
-            has_marked_trap(net, &walk.contained, &mut walk.trap),
+            has_marked_trap(net, &walk.contained, &mut walk.trap, &mut walk.fallen),
             walk,
         ),
     }

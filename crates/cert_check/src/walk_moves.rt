@@ -1,14 +1,14 @@
 ghost use Rattle.std.specs.Prelude.{◌≡◌, [], ◌∷◌, ℕ, ◌<◌, MatchBool, true, false, length};
 ghost use Rattle.net_values.specs.FlatNets.{net_of};
 ghost use Rattle.net_values.specs.PlaceSets.{has};
-ghost use Rattle.closed_sets.specs.ClosedSets.{IsGreatestSiphon, IsSiphon};
+ghost use Rattle.closed_sets.specs.ClosedSets.{IsSiphon};
 ghost use Rattle.certificates.specs.Conditions.{TreeLineHolds, after_line, all_siphons};
 ghost use Rattle.certificates.specs.declared.certificate.TreeLine.{TreeLine};
-ghost use Rattle.cert_check.specs.Walks.{HasSizes, IsAt, IsLeft, Enters, Turns, Rises};
-ghost use Rattle.cert_check.specs.Walks.{class_now, pending_now, except, level_at, saved_at};
+ghost use Rattle.cert_check.specs.Walks.{HasSizes, IsAt, IsLeft, KnowsWithout, Enters, Turns, Rises};
+ghost use Rattle.cert_check.specs.Walks.{class_now, pending_now, level_at, saved_at};
 
 use crate::walk::{Level, Walk};
-use closed_sets::{greatest_siphon, greatest_siphon_without};
+use closed_sets::{Fallen, greatest_siphon, keeps_without};
 use net_values::{FlatNet, PlaceSet};
 
 /// Begins at the class of all siphons.
@@ -19,6 +19,7 @@ pub fn begin(net: &FlatNet, walk: &mut Walk)
     walk.depth = 0;
     clear(&mut walk.contained);
     clear(&mut walk.used);
+    walk.empty = false;
     fill(&mut walk.live);
     greatest_siphon(net, &mut walk.live);
 }
@@ -72,31 +73,49 @@ fn enter(net: &FlatNet, walk: &mut Walk, p: usize)
     walk.levels[depth] = Level {
         place: p,
         contained: false,
+        empty: walk.empty,
     };
     walk.saved[depth].copy_from(&walk.live);
     walk.used.insert(p);
-    leave_out(net, &mut walk.live, p);
+    walk.empty = leave_out(
+        net,
+        walk.empty,
+        &mut walk.live,
+        p,
+        &walk.contained,
+        &mut walk.fallen,
+    );
     walk.depth = depth + 1;
 }
 
-/// Leaves the greatest siphon in the set without place `p`.
-fn leave_out(net: &FlatNet, set: &mut PlaceSet, p: usize)
-    requires size { length set.old ≡ (net_of net.now).places }
-    requires place { p < (net_of net.now).places }
-    requires siphon { IsSiphon (net_of net.now) (has set.old) }
-    ensures size { length set.new ≡ length set.old }
-    ensures greatest { IsGreatestSiphon (net_of net.now) (except (has set.old) p) (has set.new) }
+/// Takes place `p` out of the greatest siphon of a class, unless the class is empty. Tells whether the class without
+/// the place is: so it is as soon as a contained place falls. The list is scratch.
+fn leave_out(
+    net: &FlatNet,
+    empty: bool,
+    live: &mut PlaceSet,
+    p: usize,
+    contained: &PlaceSet,
+    fallen: &mut Fallen,
+) -> bool
+    requires size { length live.old ≡ (net_of net.now).places }
+    requires siphon { empty ≡ false → IsSiphon (net_of net.now) (has live.old) }
+    ensures size { length live.new ≡ length live.old }
+    ensures known { KnowsWithout (net_of net.now) contained.now p empty live.old result live.new }
 {
-    greatest_siphon_without(net, set, p);
+    empty || !keeps_without(net, live, p, contained, fallen)
 }
 
-/// Whether no nonempty siphon belongs to the class: the greatest siphon that avoids what it avoids is empty, or
-/// lacks a place of the set that it contains.
+/// Whether no nonempty siphon belongs to the class: so it is where that is known, or the greatest siphon that avoids
+/// what the class avoids is empty, or lacks a place of the set that its siphons contain.
 pub fn is_empty_class(net: &FlatNet, walk: &Walk) -> bool
     requires { IsAt (net_of net.now) walk.now }
     ensures { MatchBool result (TreeLineHolds (net_of net.now) (class_now walk.now) TreeLine.Empty)
         (TreeLineHolds (net_of net.now) (class_now walk.now) TreeLine.Empty → ⊥) }
 {
+    if walk.empty {
+        return true;
+    }
     walk.live.is_empty() || !walk.contained.is_subset(&walk.live)
 }
 
@@ -124,12 +143,14 @@ fn turn(walk: &mut Walk, d: usize)
     requires live { length walk.old.live ≡ length (saved_at walk.old.saved.items d) }
     ensures { Turns walk.old walk.new d }
 {
-    let place = walk.levels[d].place;
+    let Level { place, empty, .. } = walk.levels[d];
     walk.levels[d] = Level {
         place,
         contained: true,
+        empty,
     };
     walk.contained.insert(place);
+    walk.empty = empty;
     walk.live.copy_from(&walk.saved[d]);
 }
 

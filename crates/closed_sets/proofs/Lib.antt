@@ -13,3 +13,4 @@ pub mod SmallerSiphons
 pub mod Traps
 pub mod Unions
 pub mod MarkedTraps
+pub mod NeededPlaces

@@ -7,7 +7,7 @@ use Rattle.std.proofs.lemmas.List.Elements.{Contains-append_left, Contains-push_
 use Rattle.net_values.specs.declared.limits.TheConstants.{MAX_PLACES}
 use Rattle.net_values.specs.Net.{Net}
 use Rattle.net_values.specs.PlaceArcs.{ListsPositive}
-use Rattle.net_values.specs.PlaceSets.{has}
+use Rattle.net_values.specs.PlaceSets.{has, HasNoneFrom, IsFirstFrom}
 use Rattle.closed_sets.specs.ClosedSets.{has_output_in, IsSiphon, IsGreatestSiphon}
 use Rattle.closed_sets.specs.Growth.{is_open}
 use Rattle.closed_sets.specs.Passes.{Shrinks, members}
@@ -17,6 +17,7 @@ use Rattle.closed_sets.specs.Guards.{guards}
 use Rattle.closed_sets.specs.Falling.{Falls, LosesGuarded, Closes, ClosesAll, IsWaiting, IsFalling, Settles}
 use Rattle.closed_sets.specs.Kept.{KeepsWithout, LosesWithout}
 use Rattle.closed_sets.proofs.Below.{pair_from}
+use Rattle.closed_sets.proofs.Firsts.{before_first, before_all}
 use Rattle.closed_sets.proofs.Passes.{shrinks_not, shrinks_on, siphon_from_closed, closed_from_siphon}
 use Rattle.closed_sets.proofs.Falling.{has_below, never_loses, falls_not, falls_on, falls_one, one_fewer, waiting_on}
 
@@ -139,28 +140,19 @@ looked_none net s = record {
   waiting = λ q t below. absurd (omega arith);
 }
 
-pub looked_skip : (net : Net) (old s : List Bool) (l : List ℕ) (p : ℕ) → has s p ≡ false → IsLooked net old s l p → IsLooked net old s l (p + 1)
-looked_skip net old s l p out looked = record {
-  falls = looked.falls;
-  shrinks = looked.shrinks;
-  waiting = λ q t below member gives. elim (cases_eq q p) [
-    | inl same ↦ absurd (both_ways (has s p) out (subst (λ (r : ℕ). IsTrue (has s r)) same member))
-    | inr other ↦ looked.waiting q t (omega arith) member gives
-  ];
-}
-
-pub looked_more : (net : Net) (old s r : List Bool) (l m : List ℕ) (p : ℕ) (ts : List ℕ) (b : Bool) → IsLooked net old s l p → ListsPositive (λ t. net.post p t) ts → MatchBool b (ClosesAll net Nothing ts (length ts) s r l m) (LosesGuarded net Nothing s) → IsLooked net old r m (p + 1)
-looked_more net old s r l m p ts b looked listed answer = let closed = never_loses {P = ClosesAll net Nothing ts (length ts) s r l m} net s b answer in record {
+-- place p is the first in the set from the one that the look has come to
+pub looked_more : (net : Net) (old s r : List Bool) (l m : List ℕ) (from p : ℕ) (ts : List ℕ) (b : Bool) → IsLooked net old s l from → IsFirstFrom s from p → ListsPositive (λ t. net.post p t) ts → MatchBool b (ClosesAll net Nothing ts (length ts) s r l m) (LosesGuarded net Nothing s) → IsLooked net old r m (p + 1)
+looked_more net old s r l m from p ts b looked first listed answer = let closed = never_loses {P = ClosesAll net Nothing ts (length ts) s r l m} net s b answer in record {
   falls = falls_on Nothing old s r [] l m looked.falls closed.falls;
   shrinks = shrinks_on net _ _ _ looked.shrinks closed.shrinks;
   waiting = λ q t below member gives. elim (cases_eq q p) [
     | inl same ↦ waits_listed net (λ u. net.post p u) ts r m listed closed.waiting t (subst (λ (k : ℕ). 0 < net.post k t) same gives)
-    | inr other ↦ waiting_on net Nothing s r l m t closed.falls (looked.waiting q t (omega arith) (closed.falls.within q member) gives)
+    | inr other ↦ waiting_on net Nothing s r l m t closed.falls (looked.waiting q t (before_first s from p q first (omega arith) (closed.falls.within q member)) (closed.falls.within q member) gives)
   ];
 }
 
-pub looked_all : (net : Net) (old s : List Bool) (l : List ℕ) (p : ℕ) → length old ≡ net.places → net.places ≤ MAX_PLACES → members old ≤ length old → net.places ≤ p → IsLooked net old s l p → IsFalling net Nothing old s l
-looked_all net old s l p size few count past looked = record {
+pub looked_all : (net : Net) (old s : List Bool) (l : List ℕ) (from : ℕ) → length old ≡ net.places → net.places ≤ MAX_PLACES → members old ≤ length old → HasNoneFrom s from → IsLooked net old s l from → IsFalling net Nothing old s l
+looked_all net old s l from size few count none looked = record {
   few = few;
   size = looked.falls.size;
   shrinks = looked.shrinks;
@@ -172,7 +164,7 @@ looked_all net old s l p size few count past looked = record {
   ];
   waiting = λ t below opens.
       let gives = pair_from net.places (has s) (λ q. net.post q t) (and_parts (has_output_in net (has s) t) _ opens).0 in
-      looked.waiting gives.0 t (omega (arith, gives.1)) gives.2 gives.3 opens;
+      looked.waiting gives.0 t (before_all s from gives.0 none gives.2) gives.2 gives.3 opens;
 }
 
 -- a place that isn't in the siphon

@@ -1,12 +1,13 @@
 -- A smaller nonempty siphon in a set lacks one of its places, and then lies in the greatest siphon of the
 -- set without that place. So a nonempty siphon is minimal exactly where each of these is empty.
 use Rattle.std.proofs.Common.{◌≡◌, ◌≢◌, ◌↔◌, sym, subst, ◌∙◌, ℕ, ◌<◌, List, Bool, false, IsTrue, length, set, not, inl, inr, arith}
-use Rattle.std.proofs.lemmas.Bool.{cases_lt, cases_eq, both_ways, cases_Bool, ltb-true, not-true, not_from_false}
+use Rattle.std.proofs.lemmas.Bool.{cases_lt, cases_eq, both_ways, cases_Bool, not-true, not_from_false}
 use Rattle.std.proofs.lemmas.List.{get_or_past, get_or-set_same, get_or-set_other}
 use Rattle.net_values.specs.Net.{Net}
 use Rattle.net_values.specs.PlaceSets.{has, IsEmpty}
 use Rattle.closed_sets.specs.ClosedSets.{any_below, IsSiphon, IsWithin, IsNonempty, IsGreatestSiphon, IsMinimalSiphon, HasSiphonWithout}
-use Rattle.closed_sets.specs.declared.guard.Guard.TheVariants.{Below}
+use Rattle.closed_sets.specs.declared.guard.Guard.{Guard}
+use Rattle.closed_sets.specs.Guards.{guards}
 use Rattle.closed_sets.specs.Falling.{LosesGuarded}
 use Rattle.closed_sets.proofs.Below.{any_from, none_at}
 
@@ -86,10 +87,12 @@ none_without net members p q size below member lost none smaller =
     ] in
     none (R, smaller.1, smaller.2, smaller.3, not_from_false (R q) (lost R smaller.1 inside))
 
--- where a lower place of the set falls without the place, no nonempty siphon lacks the place
-pub none_guarded : (net : Net) (members : List Bool) (p : ℕ) → length members ≡ net.places → p < net.places → LosesGuarded net (Below p) (set members p false) → ((q : ℕ) → q < p → IsTrue (has members q) → HasSiphonWithout net (has members) q → ⊥) → HasSiphonWithout net (has members) p → ⊥
-none_guarded net members p size below loses lower =
+-- where a guarded place of the set falls without the place, no nonempty siphon lacks the place
+pub none_guarded : (net : Net) (guard : Guard) (members : List Bool) (p : ℕ) → length members ≡ net.places → p < net.places → LosesGuarded net guard (set members p false) → ((q : ℕ) → IsTrue (guards guard q) → IsTrue (has members q) → HasSiphonWithout net (has members) q → ⊥) → HasSiphonWithout net (has members) p → ⊥
+none_guarded net guard members p size below loses guarded =
     let q = loses.place in
-    let less : q < p = ltb-true q p loses.guarded in
-    let inside : IsTrue (has members q) = sym (get_or-set_other members p q false false (λ same. omega arith)) ∙ loses.member in
-    none_without net members p q size below loses.member loses.lost (lower q less inside)
+    let inside : IsTrue (has members q) = elim (cases_eq q p) [
+      | inl same ↦ absurd (both_ways (has (set members p false) p) (get_or-set_same members p false false (omega arith)) (subst (λ (k : ℕ). IsTrue (has (set members p false) k)) same loses.member))
+      | inr other ↦ sym (get_or-set_other members p q false false other) ∙ loses.member
+    ] in
+    none_without net members p q size below loses.member loses.lost (guarded q loses.guarded inside)

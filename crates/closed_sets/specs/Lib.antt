@@ -10,4 +10,5 @@ pub mod Opens
 pub mod Kinds
 pub mod Passes
 pub mod Guards
+pub mod Needed
 pub mod Falling

@@ -23,16 +23,21 @@ pub fn is_trap(net: &FlatNet, set: &PlaceSet) -> bool
     is_closed(Kind::Trap, net, set)
 }
 
-/// Whether each place of the set is fed in it. Only the transitions with an output place in the set are
-/// looked at.
+/// Whether each place of the set is fed in it. Only its places are looked at, and the transitions with an output
+/// place in it.
 fn is_closed(kind: Kind, net: &FlatNet, set: &PlaceSet) -> bool
     requires { length set.now ≡ (net_of net.now).places }
     ensures { IsTrue result ↔ IsSiphon (seen_as kind (net_of net.now)) (has set.now) }
 {
-    for p in 0..net.places() {
-        if set.contains(p) && !is_fed(kind, net, set, p) {
+    let mut from = 0;
+    while from < net.places() {
+        let Some(p) = set.first_from(from) else {
+            return true;
+        };
+        if !is_fed(kind, net, set, p) {
             return false;
         }
+        from = p + 1;
     }
     true
 }

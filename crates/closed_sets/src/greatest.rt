@@ -19,7 +19,7 @@ pub fn greatest_siphon(net: &FlatNet, set: &mut PlaceSet)
     ensures size { length set.new ≡ length set.old }
     ensures greatest { IsGreatestSiphon (net_of net.now) (has set.old) (has set.new) }
 {
-    greatest(Kind::Siphon, net, set);
+    greatest(Kind::Siphon, net, set, &mut Fallen::none());
 }
 
 /// Leaves the greatest trap in the set: the trap in it that contains every trap in it.
@@ -28,23 +28,13 @@ pub fn greatest_trap(net: &FlatNet, set: &mut PlaceSet)
     ensures size { length set.new ≡ length set.old }
     ensures greatest { IsGreatestTrap (net_of net.now) (has set.old) (has set.new) }
 {
-    greatest(Kind::Trap, net, set);
-}
-
-/// Takes place `p` out of a siphon, where it is in it, and leaves the greatest siphon in the rest. Only the
-/// transitions that the places that fall were input places of are looked at.
-pub fn greatest_siphon_without(net: &FlatNet, set: &mut PlaceSet, p: usize)
-    requires size { length set.old ≡ (net_of net.now).places }
-    requires siphon { IsSiphon (net_of net.now) (has set.old) }
-    ensures size { length set.new ≡ length set.old }
-    ensures greatest { IsGreatestSiphon (net_of net.now) (has (slice_set set.old p false)) (has set.new) }
-{
-    leave_out(net, set, p, &mut Fallen::none(), Guard::Nothing);
+    greatest(Kind::Trap, net, set, &mut Fallen::none());
 }
 
 /// Takes place `p` out of a siphon, and leaves the greatest siphon in the rest where that has every place of
 /// the other set that is left. Else it tells `false` as soon as one of them has fallen, and what the set holds
-/// then is lost. What the scratch list holds is lost.
+/// then is lost. Only the transitions that the places that fall were input places of are looked at. What the scratch
+/// list holds is lost.
 pub fn keeps_without(
     net: &FlatNet,
     set: &mut PlaceSet,
@@ -85,15 +75,15 @@ pub(crate) fn leave_out(
     propagate(Kind::Siphon, net, set, fallen, guard)
 }
 
-/// Leaves the greatest siphon of the net as it is seen.
-fn greatest(kind: Kind, net: &FlatNet, set: &mut PlaceSet)
+/// Leaves the greatest siphon of the net as it is seen. What the scratch list holds is lost.
+pub(crate) fn greatest(kind: Kind, net: &FlatNet, set: &mut PlaceSet, fallen: &mut Fallen)
     requires { length set.old ≡ (net_of net.now).places }
     ensures size { length set.new ≡ length set.old }
     ensures greatest { IsGreatestSiphon (seen_as kind (net_of net.now)) (has set.old) (has set.new) }
 {
-    let mut fallen = Fallen::none();
-    look(kind, net, set, &mut fallen);
-    propagate(kind, net, set, &mut fallen, Guard::Nothing);
+    fallen.clear();
+    look(kind, net, set, fallen);
+    propagate(kind, net, set, fallen, Guard::Nothing);
 }
 
 /// Closes the set at each transition that has an output place in it.
@@ -102,9 +92,12 @@ fn look(kind: Kind, net: &FlatNet, set: &mut PlaceSet, fallen: &mut Fallen)
     requires none { fallen.old ≡ [] }
     ensures { IsFalling (seen_as kind (net_of net.now)) Nothing set.old set.new fallen.new }
 {
-    for p in 0..net.places() {
-        if set.contains(p) {
-            close_all(kind, net, set, fallen, kind.givers(net, p), Guard::Nothing);
-        }
+    let mut from = 0;
+    while from < net.places() {
+        let Some(p) = set.first_from(from) else {
+            return;
+        };
+        close_all(kind, net, set, fallen, kind.givers(net, p), Guard::Nothing);
+        from = p + 1;
     }
 }

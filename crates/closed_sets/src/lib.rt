@@ -10,6 +10,7 @@ mod kind;
 mod laws;
 mod marked;
 mod minimal;
+mod needed;
 mod opens;
 mod propagate;
 #[cfg(test)]
@@ -17,12 +18,13 @@ mod tests;
 
 pub use closed::{is_siphon, is_trap};
 pub use fallen::Fallen;
-pub use greatest::{greatest_siphon, greatest_siphon_without, greatest_trap, keeps_without};
+pub use greatest::{greatest_siphon, greatest_trap, keeps_without};
 pub use laws::{
     commoner_excludes_dead_markings, dead_markings_empty_a_siphon, each_set_has_a_greatest_siphon,
     empty_siphons_stay_empty, minimal_siphons_are_in_all, one_place_less_is_left_of_the_greatest,
     traps_are_siphons_reversed, traps_stay_marked, unions_of_siphons_are_siphons,
 };
 pub use marked::has_marked_trap;
-pub use minimal::{has_no_smaller_siphon, is_minimal_siphon};
+pub use minimal::is_minimal_siphon;
+pub use needed::has_no_smaller_siphon;
 pub use opens::{add_place, find_open};

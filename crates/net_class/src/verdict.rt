@@ -8,7 +8,7 @@ ghost use Rattle.closed_sets.specs.MinimalSets.{IsMinimalSet};
 ghost use Rattle.net_class.specs.declared.verdict.Verdict.{Verdict};
 ghost use Rattle.net_class.specs.Verdicts.{NamesFirst};
 
-use closed_sets::has_marked_trap;
+use closed_sets::{Fallen, has_marked_trap};
 use net_values::{FlatNet, NoMemory, PlaceSet, Sets};
 use std::alloc::Global;
 
@@ -31,9 +31,10 @@ pub fn commoner(alloc: Global, net: &FlatNet, siphons: &Sets) -> Result<Verdict,
         → 0 < (net_of net.now).transitions → IsDeadlockFree (net_of net.now)) }
 {
     let mut scratch = PlaceSet::new(alloc, net.places())?;
+    let mut fallen = Fallen::none();
     let sets = siphons.as_slice();
     for siphon in sets {
-        if !has_marked_trap(net, siphon, &mut scratch) {
+        if !has_marked_trap(net, siphon, &mut scratch, &mut fallen) {
             return Ok(Verdict::No(siphon.copy(alloc)?));
         }
     }

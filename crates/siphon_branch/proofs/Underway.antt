@@ -128,3 +128,8 @@ module _ (net : Net) (classes now : List LiveClass) (met met' found found' : Lis
     within = omega (arith, less, ap length pushed, length_push met' siphon);
     room = room;
   }
+
+-- nothing was left to take
+pub popped_none : (classes rest : List LiveClass) → classes ≡ rest ++ [] → (0 < length classes → ⊥) → rest ≡ []
+popped_none classes [] same none = refl
+popped_none classes (class ∷ rest) same none = absurd (none (let many = ap length same in omega arith))

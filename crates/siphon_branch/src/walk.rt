@@ -9,6 +9,15 @@ use closed_sets::{Fallen, has_no_smaller_siphon};
 use net_values::{FlatNet, List, NoMemory, PlaceSet, Sets};
 use std::alloc::Global;
 
+/// What a walk writes over: what is left of a class's greatest siphon, the places of a siphon that it needs, and a list
+/// of places.
+#[derive(Drop)]
+pub(crate) struct Scratch {
+    left: PlaceSet,
+    needed: PlaceSet,
+    fallen: Fallen,
+}
+
 /// Takes classes, the last one first, and meets a siphon in each, until so many siphons are met or no class is left.
 pub(crate) fn walk(
     alloc: Global,
@@ -26,14 +35,24 @@ pub(crate) fn walk(
     ensures within { length met.new ≤ end }
     ensures ended { OnOk result ((length met.new ≡ end) ⊎ (classes.new ≡ [])) }
 {
-    let mut left = PlaceSet::new(alloc, net.places())?;
-    let mut fallen = Fallen::none();
+    let mut scratch = Scratch {
+        left: PlaceSet::new(alloc, net.places())?,
+        needed: PlaceSet::new(alloc, net.places())?,
+        fallen: Fallen::none(),
+    };
     'siphons: while met.len() < end {
         let Some(class) = classes.pop() else {
             return Ok(());
         };
-        let siphon = descend(alloc, net, class, classes, &mut left, &mut fallen)?;
-        add(alloc, net, siphon, met, found, &mut left, &mut fallen)?;
+        let siphon = descend(
+            alloc,
+            net,
+            class,
+            classes,
+            &mut scratch.left,
+            &mut scratch.fallen,
+        )?;
+        add(alloc, net, siphon, met, found, &mut scratch)?;
     }
     Ok(())
 }
@@ -67,21 +86,27 @@ fn add(
     siphon: PlaceSet,
     met: &mut Sets,
     found: &mut Sets,
-    scratch: &mut PlaceSet,
-    fallen: &mut Fallen,
+    scratch: &mut Scratch,
 ) -> Result<(), NoMemory>
     requires size { length siphon ≡ (net_of net.now).places }
     requires siphon { IsWhole (net_of net.now) (has siphon) }
     requires met { All (λ set. length set ≡ (net_of net.now).places) met.old }
     requires found { All (λ set. length set ≡ (net_of net.now).places) found.old }
-    requires scratch { length scratch.old ≡ (net_of net.now).places }
-    ensures scratch { length scratch.new ≡ length scratch.old }
+    requires left { length scratch.old.left ≡ (net_of net.now).places }
+    requires needed { length scratch.old.needed ≡ (net_of net.now).places }
+    ensures left { length scratch.new.left ≡ length scratch.old.left }
+    ensures needed { length scratch.new.needed ≡ length scratch.old.needed }
     ensures extends { Extends found.old found.new }
     ensures met { OnOk result (met.new ≡ met.old ++ siphon ∷ []) }
     ensures err { OnErr result (met.new ≡ met.old) }
     ensures found { OnOk result (AddsFound (net_of net.now) siphon found.old found.new) }
 {
-    if has_no_smaller_siphon(net, &siphon, scratch, fallen) {
+    let Scratch {
+        left,
+        needed,
+        fallen,
+    } = scratch;
+    if has_no_smaller_siphon(net, &siphon, needed, left, fallen) {
         found.push(siphon.copy(alloc)?)?;
     }
     met.push(siphon)

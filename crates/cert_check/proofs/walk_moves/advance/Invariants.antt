@@ -1,11 +1,11 @@
 use Rattle.std.proofs.Common.{◌≡◌}
 use Rattle.net_values.specs.FlatNets.{net_of}
-use Rattle.cert_check.specs.Walks.{IsAt, pending_now}
+use Rattle.cert_check.specs.Walks.{IsOnWay, pending_now}
 use Rattle.cert_check.proofs.walk_moves.advance.Given as goal
 
 abbrev pub invariant-levels : goal.invariant-levels
 invariant-levels l = record {
-  at : IsAt (net_of l.net) l.walk;
+  way : IsOnWay (net_of l.net) l.walk;
   same : pending_now l.walk ≡ pending_now l.fn.walk;
 }
 

@@ -1,4 +1,4 @@
-use Rattle.std.proofs.Common.{refl, ◌∙◌, arith}
+use Rattle.std.proofs.Common.{refl, ◌∙◌, false, arith}
 use Rattle.net_values.specs.FlatNets.{net_of}
 use Rattle.cert_check.specs.declared.walk.Walk.{Walk}
 use Rattle.cert_check.proofs.Moves.{begun}
@@ -6,7 +6,7 @@ use Rattle.cert_check.proofs.walk_moves.begin.Goals as goal
 
 pub returns : goal.returns
 returns c =
-    let walk : Walk = record { levels = c.args.walk.now.levels; depth = 0; contained = c.clear.new.set; used = c.clear-2.new.set; live = c.greatest_siphon.new.set; saved = c.args.walk.now.saved; trap = c.args.walk.now.trap } in
+    let walk : Walk = record { levels = c.args.walk.now.levels; depth = 0; contained = c.clear.new.set; used = c.clear-2.new.set; empty = false; live = c.greatest_siphon.new.set; saved = c.args.walk.now.saved; trap = c.args.walk.now.trap; fallen = c.args.walk.now.fallen } in
     begun (net_of c.args.net.now) walk c.fill.new.set
     record {
       levels = c.requires.levels;
@@ -17,7 +17,7 @@ returns c =
       saved = c.requires.saved;
       trap = c.requires.trap;
     }
-    refl
+    refl refl
     (λ q below. c.clear.ensures.empty q (let size = c.requires.contained in omega arith))
     (λ q below. c.clear-2.ensures.empty q (let size = c.requires.used in omega arith))
     (λ q below. c.fill.ensures.full q (let size = c.requires.live in omega arith))

@@ -15,12 +15,12 @@ returns-then-place-places-clause-exact c =
 
 pub enter-requires-clause-room : goal.enter-requires-clause-room
 enter-requires-clause-room c =
-    room_for (net_of c.args.net.now) c.args.walk.now c.args.p c.requires
+    room_for (net_of c.args.net.now) c.args.walk.now c.args.p c.requires.way
     (let count = c.places.ensures.value in let low = c.if-place-places.false in omega arith) (sym c.contains.ensures ∙ c.if-contains.false)
 
 pub returns-clause-exact : goal.returns-clause-exact
 returns-clause-exact c =
-    entered (net_of c.args.net.now) c.args.walk.now c.enter.new.walk c.requires c.args.p
+    entered (net_of c.args.net.now) c.args.walk.now c.enter.new.walk c.requires.way c.args.p c.requires.known
     (let count = c.places.ensures.value in let low = c.if-place-places.false in omega arith) (sym c.contains.ensures ∙ c.if-contains.false) c.enter.ensures
 
 pub returns-clause-holds : goal.returns-clause-holds

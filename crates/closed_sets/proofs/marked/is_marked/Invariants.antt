@@ -1,7 +1,10 @@
-use Rattle.std.proofs.Common.{◌≡◌, ℕ, ◌<◌, ◌&&◌, false, ltb}
+use Rattle.std.proofs.Common.{◌≡◌, ◌-◌, ℕ, ◌<◌, IsTrue, length}
 use Rattle.net_values.specs.FlatNets.{net_of}
 use Rattle.net_values.specs.PlaceSets.{has}
 use Rattle.closed_sets.proofs.marked.is_marked.Given as goal
 
-abbrev pub invariant-loop-p : goal.invariant-loop-p
-invariant-loop-p l = (q : ℕ) → q < l.p → (has l.set q && ltb 0 ((net_of l.net).initial q)) ≡ false
+abbrev pub invariant-loop-from : goal.invariant-loop-from
+invariant-loop-from l = (q : ℕ) → q < l.from → IsTrue (has l.set q) → (net_of l.net).initial q ≡ 0
+
+abbrev pub decreases-loop-from : goal.decreases-loop-from
+decreases-loop-from l = length l.set - l.from

@@ -15,6 +15,6 @@ returns-then-is_empty-clause-exact c = (
   ],
 )
 
-pub has_no_smaller_siphon-requires-clause-some : goal.has_no_smaller_siphon-requires-clause-some
-has_no_smaller_siphon-requires-clause-some c =
+pub needs_each-requires-clause-some : goal.needs_each-requires-clause-some
+needs_each-requires-clause-some c =
     nonempty_from (net_of c.args.net.now) c.args.set.now c.requires.set (λ empty. false≢true (c.if-is_empty.ensures.1 empty))

@@ -2,7 +2,7 @@ use Rattle.std.proofs.Common.{◌≡◌, ◌-◌, ℕ, ◌<◌, IsTrue, length}
 use Rattle.net_values.specs.FlatNets.{net_of}
 use Rattle.net_values.specs.PlaceSets.{has}
 use Rattle.closed_sets.specs.ClosedSets.{HasSiphonWithout}
-use Rattle.closed_sets.proofs.minimal.has_no_smaller_siphon.Given as goal
+use Rattle.closed_sets.proofs.minimal.needs_each.Given as goal
 
 abbrev pub invariant-loop-from : goal.invariant-loop-from
 invariant-loop-from l =
