@@ -11,3 +11,8 @@ pub mod LegalTexts
 pub mod Windows
 pub mod Endings
 pub mod EmptyTags
+pub mod ScanLaws
+pub mod SpelledEnds
+pub mod StreamLaws
+pub mod HeldLaws
+pub mod StateLaws

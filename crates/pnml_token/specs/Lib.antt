@@ -1,9 +1,11 @@
 -- What a token is stands in pnml_grammar. The public clauses cite the words of Steps on the variants of an answer, to be
 -- read and believed.
 pub mod Steps
+pub mod Streams
 -- Only clauses of private functions and lemmas cite these.
 pub mod ByteClasses
 pub mod Gives
 pub mod Views
 pub mod Pieces
 pub mod EmptyTags
+pub mod Scans

@@ -1,8 +1,8 @@
 -- What a step or a fault says.
-use Rattle.std.specs.Prelude.{◌≡◌, ℕ, List, length, Result, Ok, Err}
+use Rattle.std.specs.Prelude.{◌≡◌, ℕ, Bool, true, false, List, length, Result, Ok, Err}
 use Rattle.pnml_grammar.specs.declared.token.Attribute.{Attribute}
 use Rattle.pnml_grammar.specs.declared.token.Token.{Token}
-use Rattle.pnml_grammar.specs.declared.token.Token.TheVariants.{Empty}
+use Rattle.pnml_grammar.specs.declared.token.Token.TheVariants.{Empty, Characters}
 use Rattle.pnml_grammar.specs.Tokens.{Occurs, TokenAt}
 use Rattle.pnml_token.specs.declared.miss.Miss.{Miss}
 use Rattle.pnml_token.specs.declared.miss.Miss.TheVariants as misses
@@ -26,6 +26,21 @@ IfEnd steps.End P = P
 abbrev pub IfBadToken : TokenFault → (ℕ → Type 0) → Type 0
 IfBadToken (BadToken at) P = P at
 IfBadToken NoMemory P = Unit
+
+-- where nothing of its kind is there
+abbrev pub IfNoToken : Miss → Type 0 → Type 0
+IfNoToken NoToken P = P
+IfNoToken misses.NoMemory P = Unit
+
+-- why no step is answered at the offset
+abbrev pub fault_at : ℕ → Miss → TokenFault
+fault_at offset NoToken = BadToken offset
+fault_at offset misses.NoMemory = NoMemory
+
+-- whether a token goes on to the next `<`
+abbrev pub is_characters : Token → Bool
+is_characters (Characters value) = true
+is_characters _ = false
 
 -- an empty tag occurs at the offset and has this end
 abbrev pub EndsEmptyTag : List ℕ → ℕ → ℕ → Type 0

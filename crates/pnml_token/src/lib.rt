@@ -7,18 +7,24 @@
 
 mod attributes;
 mod empty_tags;
+mod fed;
+mod held;
 mod legality;
 mod markup;
 mod miss;
 mod name_bytes;
 mod references;
 mod runs;
+mod scan;
 mod token;
+mod tokens;
 mod values;
 
 pub use empty_tags::past_empty_tag;
+pub use fed::Fed;
 pub use runs::{is_space, past_space};
 pub use token::{Step, TokenFault, token_at};
+pub use tokens::Tokens;
 
 #[cfg(test)]
 mod tests;

@@ -3,7 +3,7 @@ ghost use Rattle.pnml_grammar.specs.declared.token.Token.{Token as TheToken};
 ghost use Rattle.pnml_grammar.specs.Reading.{token_from, shape_at, characters_at};
 ghost use Rattle.pnml_grammar.specs.Tokens.{TokenAt};
 ghost use Rattle.pnml_token.specs.Gives.{Gives};
-ghost use Rattle.pnml_token.specs.Steps.{IfToken, IfEnd, IfBadToken, IsEndIfAny, Finds};
+ghost use Rattle.pnml_token.specs.Steps.{IfToken, IfEnd, IfBadToken, IsEndIfAny, Finds, fault_at};
 
 use crate::legality::is_spelling;
 use crate::markup::markup_of;
@@ -57,13 +57,22 @@ pub fn token_at(alloc: Global, bytes: &[u8], offset: usize) -> Result<Step, Toke
     }
     match token_within(alloc, rest) {
         Ok((token, length)) => Ok(Step::Token(token, offset + length)),
-        Err(Miss::NoToken) => Err(TokenFault::BadToken(offset as u64)),
-        Err(Miss::NoMemory) => Err(TokenFault::NoMemory),
+        Err(miss) => Err(fault_at(offset as u64, miss)),
+    }
+}
+
+/// Why no step is answered at the offset.
+pub(crate) fn fault_at(offset: u64, miss: Miss) -> TokenFault
+    ensures { result ≡ fault_at offset miss }
+{
+    match miss {
+        Miss::NoToken => TokenFault::BadToken(offset),
+        Miss::NoMemory => TokenFault::NoMemory,
     }
 }
 
 /// The token at the front, and how many bytes spell it. No more bytes are looked at than tell it.
-fn token_within(alloc: Global, bytes: &[u8]) -> Result<(Token, usize), Miss>
+pub(crate) fn token_within(alloc: Global, bytes: &[u8]) -> Result<(Token, usize), Miss>
     requires { 0 < length bytes.now }
     ensures { Finds result bytes.now }
 {
@@ -85,7 +94,7 @@ pub(crate) fn window_length(length: usize) -> usize
 
 /// The token at the front, and the bytes after it.
 #[tactic(auto, unfolding(pnml_grammar::specs::Reading::token_from))]
-fn token_of(alloc: Global, bytes: &[u8]) -> Result<(Token, &[u8]), Miss>
+pub(crate) fn token_of(alloc: Global, bytes: &[u8]) -> Result<(Token, &[u8]), Miss>
     ensures { Gives (λ x. (x.0, x.1.now)) result (token_from bytes.now) }
 {
     let (token, rest) = shape_of(alloc, bytes)?;
