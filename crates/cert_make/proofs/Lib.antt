@@ -8,3 +8,4 @@ pub mod TreeMaking
 pub mod GrowingTrees
 pub mod PlaceTrees
 pub mod WideChecks
+pub mod WalkedTerms

@@ -78,11 +78,9 @@ fn flow_of(alloc: Global, row: &Vector) -> Result<Flow, NoMemory>
     ensures vector { IsVector row.now }
 {
     let mut flow = Flow::new(alloc);
-    let entries = row.as_slice();
-    for p in 0..entries.len() {
-        if entries[p] > 0 {
-            flow.push((p as u32, row.get(p)))?;
-        }
+    let mut walk = row.walk();
+    'places: while let Some((p, entry)) = walk.next() {
+        flow.push((p as u32, entry as i128))?;
     }
     Ok(flow)
 }
