@@ -58,7 +58,7 @@ joined_more begins old mid spaces new pieces is_first piece before one two = rec
 pub range_itself : (a n : ℕ) → map (λ (k : ℕ). k) (range_with_len a n) ≡ range_with_len a n
 range_itself a n = map-id (range_with_len a n)
 
-passing_step : (test : ℕ → Bool) (n : ℕ) → passing test (n + 1) ≡ passing test n ++ cond (test n) (n ∷ []) []
+pub passing_step : (test : ℕ → Bool) (n : ℕ) → passing test (n + 1) ≡ passing test n ++ cond (test n) (n ∷ []) []
 passing_step test n =
     ap (filter test) (sym (range_itself 0 (n + 1))) ∙ filter_of_map_range_with_len_more test (λ k. k) 0 n n (omega arith)
     ∙ ap (λ (numbers : List ℕ). filter test numbers ++ cond (test n) (n ∷ []) []) (range_itself 0 n)

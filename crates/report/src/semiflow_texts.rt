@@ -9,9 +9,6 @@ use crate::lines::{push_count, push_space};
 use net_values::{FlatNet, NoMemory, NodeKind, Rows, Text, Vector};
 use std::alloc::Global;
 
-/// The least entry that a line tells.
-const LEAST_TOLD: u128 = 1;
-
 /// The text of `places`: a line for each semiflow of places, with its positive entries in order, each as its
 /// number, `*` and the id of its place, and last how many there are.
 pub fn place_semiflows_text(alloc: Global, net: &FlatNet, rows: &Rows) -> Result<Text, NoMemory>
@@ -77,7 +74,7 @@ fn push_semiflow(
     requires { length row.now ≡ node_count kind net.now }
     ensures { OnOk result (text.new ≡ text.old ++ semiflow_line (node_id kind net.now) row.now) }
 {
-    push_terms(text, kind, net, row.as_slice())?;
+    push_terms(text, kind, net, row)?;
     text.push("\n")
 }
 
@@ -86,19 +83,18 @@ fn push_terms(
     text: &mut Text,
     kind: NodeKind,
     net: &FlatNet,
-    entries: &[u128],
+    entries: &Vector,
 ) -> Result<(), NoMemory>
     requires { length entries.now ≡ node_count kind net.now }
     ensures { let pieces = terms (node_id kind net.now) entries.now in
         OnOk result (text.new ≡ text.old ++ spaced true pieces) }
 {
     let mut is_first = true;
-    for i in 0..entries.len() {
-        if entries[i] >= LEAST_TOLD {
-            push_space(text, is_first)?;
-            push_term(text, entries[i], net.node_id(kind, i).as_str())?;
-            is_first = false;
-        }
+    let mut walk = entries.walk();
+    'entries: while let Some((i, entry)) = walk.next() {
+        push_space(text, is_first)?;
+        push_term(text, entry, net.node_id(kind, i).as_str())?;
+        is_first = false;
     }
     Ok(())
 }

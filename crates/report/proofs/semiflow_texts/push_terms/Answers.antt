@@ -1,21 +1,38 @@
-use Rattle.std.proofs.Common.{true, arith, ◌∙◌, ap, ◌++◌, List, ℕ, ltb, get_or}
-use Rattle.std.proofs.lemmas.Bool.{lt-ltb, le-ltb}
+use Rattle.std.proofs.Common.{◌≡◌, ◌∙◌, refl, ap, sym, subst, Bool, true, false, ◌++◌, List, ℕ, ltb, map, length, get_or, arith}
 use Rattle.net_values.specs.Nodes.{node_id}
-use Rattle.report.specs.Texts.{term}
-use Rattle.report.proofs.Pieces.{grown, kept}
+use Rattle.report.specs.Lines.{spaced}
+use Rattle.report.specs.Texts.{passing, term}
+use Rattle.report.proofs.Pieces.{IsJoined, grown}
+use Rattle.report.proofs.WalkedTerms.{passes_here, passing_all, passing_before}
 use Rattle.report.proofs.semiflow_texts.push_terms.Goals as goal
-use Rattle.report.proofs.semiflow_texts.push_terms.Goals.{then-entries-i-ge-LEAST_TOLD+in_ok-push_space+in_ok-push_term, else-entries-i-ge-LEAST_TOLD}
 
-pub loop-i-preserved : goal.loop-i-preserved
-loop-i-preserved c =
+pub entries-preserved : goal.entries-preserved
+entries-preserved c =
     let ids = node_id c.args.kind c.args.net.now in
     let entries = c.args.entries.now in
-    let piece = λ (k : ℕ). term (get_or entries k 0) (ids k) in
-    let test = λ (k : ℕ). ltb 0 (get_or entries k 0) in
-    elim c.if-entries-i-ge-LEAST_TOLD.branch [
-      | then-entries-i-ge-LEAST_TOLD+in_ok-push_space+in_ok-push_term w ↦
-          grown true piece test c.loop-i.i _ _ w.push_space.new.text _ c.loop-i.is_first c.if-entries-i-ge-LEAST_TOLD.is_first c.loop-i.invariant (lt-ltb 0 _ (omega (arith, w.if-entries-i-ge-LEAST_TOLD.true))) w.in_ok-push_space.ensures
-          (w.text-is ∙ w.in_ok-push_term.ensures ∙ ap (λ (id : List ℕ). w.push_space.new.text ++ term (get_or entries c.loop-i.i 0) id) (w.as_str.ensures ∙ w.node_id.ensures)) w.is_first-is
-      | else-entries-i-ge-LEAST_TOLD w ↦
-          kept true piece test c.loop-i.i _ _ _ c.loop-i.is_first c.if-entries-i-ge-LEAST_TOLD.is_first c.loop-i.invariant (le-ltb 0 _ (omega (arith, w.if-entries-i-ge-LEAST_TOLD.false))) w.text-is w.is_first-is
-    ]
+    let walk = c.entries.walk in
+    let piece : ℕ → List ℕ = λ (k : ℕ). term (get_or entries k 0) (ids k) in
+    let test : ℕ → Bool = λ (k : ℕ). ltb 0 (get_or entries k 0) in
+    let i = c.in-Some.i in
+    let first = c.in-Some.ensures.next in
+    let from = c.in-Some.ensures.from in
+    let under = first.within in
+    let same = c.entries.invariant.same in
+    let here = passes_here entries walk same i c.in-Some.entry first in
+    let before : IsJoined true c.args.text.now c.entries.text (map piece (passing test i)) c.entries.is_first =
+    subst (λ (numbers : List ℕ). IsJoined true c.args.text.now c.entries.text (map piece numbers) c.entries.is_first) (passing_before entries walk same i c.in-Some.entry first) c.entries.invariant.joined in
+    let pushed : c.push_term.new.text ≡ c.push_space.new.text ++ piece i =
+    c.in_ok-push_term.ensures ∙ ap (λ (e : ℕ). c.push_space.new.text ++ term e c.as_str.result.now) here.1 ∙ ap (λ (id : List ℕ). c.push_space.new.text ++ term (get_or entries i 0) id) (c.as_str.ensures ∙ c.node_id.ensures) in
+    record {
+      same = c.in-Some.ensures.same ∙ same;
+      within = omega (arith, ap length same);
+      joined = subst (λ (n : ℕ). IsJoined true c.args.text.now c.push_term.new.text (map piece (passing test n)) false) (sym from)
+          (grown true piece test i _ _ c.push_space.new.text _ c.entries.is_first false before here.0 c.in_ok-push_space.ensures pushed refl);
+    }
+
+pub returns : goal.returns
+returns c =
+    let ids = node_id c.args.kind c.args.net.now in
+    let entries = c.args.entries.now in
+    c.entries.invariant.joined.text
+    ∙ ap (λ (numbers : List ℕ). c.args.text.now ++ spaced true (map (λ (k : ℕ). term (get_or entries k 0) (ids k)) numbers)) (passing_all entries c.entries.walk c.entries.invariant.same c.entries.invariant.within c.in_default.ensures.next)
