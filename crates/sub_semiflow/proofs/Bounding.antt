@@ -1,8 +1,8 @@
 -- No firing raises the tokens weighted by a sub-semiflow, so a place has at most what they are at the start, divided by its
 -- number; whatever the start is.
-use Rattle.std.proofs.Common.{◌≡◌, sym, ap, ℕ, ◌+◌, ◌*◌, ◌<◌, ◌≤◌, List, [], ◌∷◌, arith}
+use Rattle.std.proofs.Common.{ap, ℕ, ◌*◌, ◌≤◌, List, [], ◌∷◌, arith}
 use Rattle.net_values.specs.Net.{Net}
-use Rattle.net_values.specs.TokenGame.{after, Reach, IsReachable}
+use Rattle.net_values.specs.TokenGame.{after, Reach}
 use Rattle.incidence.specs.Invariance.{weighted_tokens}
 use Rattle.incidence.proofs.Below.{below_same, below_part}
 use Rattle.incidence.proofs.Firing.{moved}

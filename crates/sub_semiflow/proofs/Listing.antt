@@ -1,8 +1,8 @@
 -- The list of the cuts: its members are the extremal sub-semiflows, it ascends as the uncut one does, since the place
 -- entries tell its members apart, and it generates every sub-semiflow with the same coefficients.
-use Rattle.std.proofs.Common.{◌≡◌, ◌⊎◌, refl, sym, ap, ◌∙◌, subst, ℕ, zero, suc, ◌+◌, ◌*◌, ◌<◌, ◌≤◌, List, [], ◌∷◌, length, map, take, get_or, All, Contains, slice_index, inl, inr, arith}
+use Rattle.std.proofs.Common.{◌≡◌, refl, sym, ap, ◌∙◌, subst, ℕ, ◌*◌, ◌<◌, ◌≤◌, List, [], ◌∷◌, length, map, get_or, All, Contains, slice_index, inl, inr, arith}
 use Rattle.std.specs.declared.cmp.Ordering.{Ordering}
-use Rattle.std.specs.declared.cmp.Ordering.TheVariants.{Less, Equal, Greater}
+use Rattle.std.specs.declared.cmp.Ordering.TheVariants.{Less, Equal}
 use Rattle.std.specs.Cmp.Lexicographic.{slice_cmp}
 use Rattle.std.specs.Ordering.{nat_cmp, ordering_then}
 use Rattle.std.proofs.lemmas.Bool.Decides.{nat_tests}
@@ -14,7 +14,7 @@ use Rattle.incidence.specs.Semiflow.{IsSemiflow, all_columns}
 use Rattle.semiflow_elim.specs.Bases.{IsMinimalRow}
 use Rattle.semiflow_elim.specs.Generated.{IsGenerated, sum_at}
 use Rattle.sub_semiflow.specs.SubSemiflows.{IsSubSemiflow, IsExtremalRow, CutsAreExtremal}
-use Rattle.sub_semiflow.proofs.Sums.{extended, Agree}
+use Rattle.sub_semiflow.proofs.Sums.{extended}
 use Rattle.sub_semiflow.proofs.Slack.{flow_of, sub_agree}
 use Rattle.sub_semiflow.proofs.Cutting.{cut, cut_agree, minimal_cut, minimal_long, cut_again, lengthened, same_row, with_slack, front_agree, slack_kept}
 use Rattle.sub_semiflow.proofs.Ordering.{cut_below}

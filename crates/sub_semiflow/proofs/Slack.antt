@@ -1,16 +1,16 @@
 -- The semiflows of the extended incidence are the sub-semiflows of the places, each with its slack: what each transition
 -- takes more than it gives. So the slack is determined by the place entries, supports are marks, and the same numbers
 -- divide all entries.
-use Rattle.std.proofs.Common.{◌≡◌, refl, sym, ap, ◌∙◌, subst, ℕ, zero, suc, ◌+◌, ◌*◌, ◌-◌, ◌<◌, ◌≤◌, inl, inr, arith}
+use Rattle.std.proofs.Common.{◌≡◌, sym, subst, ℕ, zero, suc, ◌+◌, ◌*◌, ◌-◌, ◌<◌, inl, inr, arith}
 use Rattle.std.specs.Int.{◌∣◌}
 use Rattle.std.proofs.lemmas.Bool.{cases_lt}
 use Rattle.std.proofs.lemmas.Nat.Gcd.{dvd-zero}
 use Rattle.std.proofs.Math.Nat.{dvd-add_iff_right, dvd-mul_right_of_dvd}
 use Rattle.net_values.specs.Net.{Net}
-use Rattle.incidence.specs.Matrix.{Matrix, positive_at, negative_at, gain_sum, loss_sum}
+use Rattle.incidence.specs.Matrix.{positive_at, negative_at, gain_sum, loss_sum}
 use Rattle.incidence.specs.Semiflow.{IsSemiflow, IsWithin, IsCoprime, all_columns}
 use Rattle.incidence.specs.Sums.{sum_below}
-use Rattle.sub_semiflow.specs.SubSemiflows.{IsSubSemiflow, IsLossy, HasMarkWithin}
+use Rattle.sub_semiflow.specs.SubSemiflows.{IsSubSemiflow, HasMarkWithin}
 use Rattle.sub_semiflow.proofs.Sums.{of_places, extended, Agree, gain_agree, loss_agree, gain_is, loss_is, some_place}
 
 -- a number that divides each factor divides the sum

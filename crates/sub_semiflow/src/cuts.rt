@@ -20,6 +20,12 @@ fn front(alloc: Global, row: &Vector, count: usize) -> Result<Vector, NoMemory>
     requires { count ≤ length row.now }
     ensures { IfOk result (λ front. front ≡ take count row.now) }
 {
-    let entries = row.as_slice();
-    Vector::from_entries(alloc, Vec::from_slice(alloc, &entries[..count])?)
+    let mut walk = row.walk();
+    let mut front = Vector::zeros(alloc, count)?;
+    'entries: while let Some((i, entry)) = walk.next() {
+        if i < count {
+            front.append(i, entry);
+        }
+    }
+    Ok(front)
 }

@@ -47,7 +47,7 @@ pub fn covered(rows: &Rows, p: usize) -> bool
     ensures { result ≡ is_covered rows.now p }
 {
     for row in rows.as_slice() {
-        if row.as_slice()[p] > 0 {
+        if row.entry_at(p) > 0 {
             return true;
         }
     }

@@ -1,6 +1,5 @@
 -- Vector after vector is not positive at the place, or one is.
-use Rattle.std.proofs.Common.{◌≡◌, ◌∙◌, ap, subst, sym, ℕ, ◌<◌, ◌≤◌, List, length, get_or, slice_index, true, false, arith}
-use Rattle.std.specs.Prelude.{nat_lt}
+use Rattle.std.proofs.Common.{◌≡◌, subst, ℕ, ◌<◌, ◌≤◌, List, length, get_or, slice_index}
 use Rattle.std.proofs.lemmas.Bool.{le-ltb}
 use Rattle.sub_semiflow.proofs.Fronts.{none_more, none_covers}
 use Rattle.sub_semiflow.proofs.extremal.covered.Goals as goal
@@ -12,7 +11,7 @@ loop-row-preserved c =
     let row = c.row-item.result in
     let more : k < length rows = subst (λ (all : List (List ℕ)). k < length all) c.as_slice-row-items.ensures.value c.loop-row-test.true in
     let is : row ≡ get_or rows k row = subst (λ (all : List (List ℕ)). row ≡ get_or all k row) c.as_slice-row-items.ensures.value c.row-item.is in
-    let none : slice_index row c.args.p ≤ 0 = subst (λ (entries : List ℕ). slice_index entries c.args.p ≤ 0) c.as_slice.ensures.value c.if-as_slice-p-gt0.false in
+    let none : slice_index row c.args.p ≤ 0 = subst (λ (n : ℕ). n ≤ 0) c.entry_at.ensures.value c.if-entry_at-gt0.false in
     none_more rows c.args.p k row more is (le-ltb 0 (slice_index row c.args.p) none) c.loop-row.invariant
 
 pub returns : goal.returns

@@ -1,5 +1,5 @@
 -- The semiflows of minimal support of the extended incidence, cut to the places.
-use Rattle.std.proofs.Common.{◌≡◌, ◌∙◌, ap, subst, sym, ℕ, ◌<◌, ◌≤◌, List, map, take, length, get_or}
+use Rattle.std.proofs.Common.{◌≡◌, ◌∙◌, ap, subst, sym, ℕ, ◌≤◌, List, map, take, length, get_or}
 use Rattle.std.specs.Cmp.Lexicographic.{slice_cmp}
 use Rattle.std.specs.Ordering.{nat_cmp}
 use Rattle.incidence.specs.Matrix.{Matrix, extended_of, incidence_of}

@@ -1,6 +1,5 @@
 -- A place more is covered, or isn't.
-use Rattle.std.proofs.Common.{◌≡◌, ◌∙◌, ℕ, ◌+◌, ◌<◌, ◌≤◌, true, false, ap, sym, cond, arith}
-use Rattle.sub_semiflow.specs.Texts.{is_covered, covered_below}
+use Rattle.std.proofs.Common.{◌≡◌, ◌∙◌, ◌+◌, ap, sym, cond, arith}
 use Rattle.sub_semiflow.proofs.Counting.{counted_more, few_covered}
 use Rattle.sub_semiflow.proofs.sub_texts.count_covered.Goals as goal
 use Rattle.sub_semiflow.proofs.sub_texts.count_covered.Goals.{then-covered, else-covered}
