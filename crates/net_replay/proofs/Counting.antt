@@ -1,22 +1,21 @@
 -- What the numbers of firings tell of a marking: each firing changes a place by its column's entry, so a list does by
 -- the sum over its members, which is the sum over the transitions of their counts with these entries. The sums are
 -- equal exactly where the marking is the initial one.
-use Rattle.std.proofs.Common.{◌≡◌, ◌≢◌, refl, sym, ap, ◌∙◌, subst, ℕ, zero, suc, ◌+◌, ◌-◌, ◌*◌, ◌^◌, ◌<◌, ◌≤◌, ◌==◌, cond, Bool, true, false, List, [], ◌∷◌, length, take, get_or, All, sum_by, slice_index, slice_set, inl, inr, arith}
-use Rattle.std.specs.Prelude.{◌↔◌, IsTrue, count_by}
+use Rattle.std.proofs.Common.{◌≡◌, ◌≢◌, refl, sym, ap, ◌∙◌, subst, ℤ, pos, ◌+ℤ◌, to_z, of_z, ℕ, zero, suc, ◌+◌, ◌*◌, ◌^◌, ◌<◌, ◌≤◌, ◌==◌, cond, true, false, List, [], ◌∷◌, length, take, get_or, All, sum_by, slice_index, slice_set, inl, inr, arith}
+use Rattle.std.specs.Int.{w128}
+use Rattle.std.proofs.lemmas.Int.{to_z_pos}
 use Rattle.std.proofs.lemmas.Bool.Decides.{nat_tests}
 use Rattle.std.proofs.lemmas.Bool.{cases_eq}
 use Rattle.std.proofs.lemmas.List.{take_all, length-take-le, length-set, get_or-set_same, get_or-set_other, get_or_default}
-use Rattle.std.proofs.lemmas.List.Elements.{All-from_get_or}
 use Rattle.std.proofs.lemmas.List.Sums.{sum_by-cons, count_by-le-length, count_by_more_yes, count_by_more_no}
-use Rattle.net_values.specs.declared.limits.TheConstants.{MAX_TRANSITIONS}
-use Rattle.net_values.specs.Vectors.{IsVector}
+use Rattle.net_values.specs.Vectors.{positive_part}
 use Rattle.net_values.specs.Net.{Net}
 use Rattle.net_values.specs.TokenGame.{IsEnabled, after}
-use Rattle.incidence.specs.Matrix.{Matrix, incidence_of, positive_at, negative_at, gain_sum, loss_sum}
+use Rattle.incidence.specs.Matrix.{positive_at, negative_at, gain_sum, loss_sum}
 use Rattle.incidence.specs.Semiflow.{IsSemiflow, all_columns}
 use Rattle.incidence.specs.Sums.{sum_below}
 use Rattle.incidence.proofs.Below.{below_same, by_place}
-use Rattle.net_replay.specs.Replays.{FiresTo, IsCountVector, occurrences, by_transition, MeetsStateEquation, Returns, IsReplay}
+use Rattle.net_replay.specs.Replays.{FiresTo, IsCountVector, occurrences, by_transition, Returns}
 
 module _ (net : Net) where
   pub all_within : (ts : List ℕ) (M L : ℕ → ℕ) → FiresTo net M ts L → All (λ t. t < net.transitions) ts
@@ -137,12 +136,10 @@ module _ (net : Net) (ts : List ℕ) (k : ℕ) (counts : List ℕ) (are : IsCoun
   pub all_counted : length ts ≤ k → IsCountVector net ts counts
   all_counted past = subst (λ (list : List ℕ). IsCountVector net list counts) (take_all k ts past) are
 
-pub is_vector : (net : Net) (ts counts : List ℕ) → net.transitions ≤ MAX_TRANSITIONS → length ts < 2 ^ 64 → IsCountVector net ts counts → IsVector counts
-is_vector net ts counts few short are = record {
-  short = let size = are.size in omega (arith, size);
-  narrow = All-from_get_or (λ entry. entry < 2 ^ 127) counts 0 (λ i inside.
-      let below : i < net.transitions = subst (λ n. i < n) are.size inside in
-      let same = are.each i below in
-      let few_times = count_by-le-length (λ u. u == i) ts in
-      omega (arith, same, few_times, short));
-}
+-- a count that is read, raised and put back as signed numbers of 128 bits
+pub counted_once : (n : ℕ) (z : ℤ) → z ≡ pos n → n + 1 < 2 ^ 127 → positive_part (to_z w128 (of_z w128 (to_z w128 (of_z w128 z) +ℤ pos 1))) ≡ n + 1
+counted_once n z is small =
+    let held : of_z w128 z ≡ n = ap (of_z w128) is in
+    let read : to_z w128 (of_z w128 z) ≡ pos n = ap (to_z w128) held ∙ to_z_pos w128 n (omega arith) in
+    let raised : of_z w128 (to_z w128 (of_z w128 z) +ℤ pos 1) ≡ n + 1 = ap (λ (x : ℤ). of_z w128 (x +ℤ pos 1)) read in
+    ap (λ (x : ℕ). positive_part (to_z w128 x)) raised ∙ ap positive_part (to_z_pos w128 (n + 1) small)

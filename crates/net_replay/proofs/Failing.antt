@@ -1,7 +1,7 @@
 -- A list fires within range or a member of it is refused, one of the two and in one way: both are followed from the
 -- first member on.
-use Rattle.std.proofs.Common.{◌≡◌, ◌⊎◌, refl, sym, ap, ◌∙◌, subst, ℕ, zero, suc, ◌+◌, ◌-◌, ◌^◌, ◌<◌, ◌≤◌, List, [], ◌∷◌, length, take, All, ltb, Bool, true, false, inl, inr, slice_index, arith}
-use Rattle.std.proofs.lemmas.Bool.{cases_Bool, cases_order, ltb-true, ltb-false}
+use Rattle.std.proofs.Common.{◌≡◌, ◌⊎◌, refl, sym, ap, subst, ℕ, zero, suc, ◌-◌, ◌^◌, ◌<◌, ◌≤◌, List, [], ◌∷◌, length, take, All, ltb, inl, inr, slice_index, arith}
+use Rattle.std.proofs.lemmas.Bool.{cases_order, ltb-true, ltb-false}
 use Rattle.std.proofs.lemmas.List.Elements.{All-tail}
 use Rattle.net_values.specs.Net.{Net}
 use Rattle.net_values.specs.TokenGame.{IsEnabled, after, NoneOverflows, IsLowest, Lacks, Overflows, FailsToFire}
@@ -9,7 +9,7 @@ use Rattle.net_values.specs.declared.token_game.FireFault.{FireFault}
 use Rattle.net_values.specs.declared.token_game.FireFault.TheVariants.{NotEnabled, WideMarking}
 use Rattle.net_replay.specs.Replays.{FiresTo, FiresWithinRange, FailsAt}
 use Rattle.net_replay.proofs.Lowest.{lowest_or_none}
-use Rattle.net_replay.proofs.Firing.{Agree, after_agree, enabled_too, narrow_too}
+use Rattle.net_replay.proofs.Firing.{Agree, after_agree, enabled_too}
 
 module _ (net : Net) where
   -- ---- one member

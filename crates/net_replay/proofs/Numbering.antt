@@ -1,10 +1,10 @@
 -- A table that has the lowest of the transitions from one on for each id has it from the one before on too, once that
 -- one was put in last: it is the lowest with its own id, and changes no other.
-use Rattle.std.proofs.Common.{◌≡◌, ◌≢◌, refl, sym, ap, ◌∙◌, subst, ℕ, suc, ◌+◌, ◌<◌, ◌≤◌, Bool, true, false, true≢false, cond, List, Option, Some, None, inl, inr, arith}
+use Rattle.std.proofs.Common.{◌≡◌, sym, ap, ◌∙◌, subst, ℕ, ◌+◌, ◌<◌, ◌≤◌, true≢false, cond, List, Option, Some, None, inl, inr, arith}
 use Rattle.std.specs.Prelude.{bytes_eq}
 use Rattle.std.proofs.lemmas.Bool.{cases_eq, cases_Bool}
 use Rattle.std.proofs.lemmas.Slice.Eq.{bytes_eq-Decides}
-use Rattle.net_replay.specs.Numbers.{IsLowestWith, IsFoundFrom}
+use Rattle.net_replay.specs.Numbers.{IsFoundFrom}
 
 module _ (count : ℕ) (ids : ℕ → List ℕ) where
   pub none_from_the_end : (id : List ℕ) → IsFoundFrom count ids count id None

@@ -1,15 +1,14 @@
 -- A replay from its marking, its counts and whether the initial marking is there again; that a list has one, and one only.
-use Rattle.std.proofs.Common.{◌≡◌, ◌≢◌, ◌⊎◌, refl, sym, ap, ◌∙◌, subst, ℕ, zero, suc, ◌+◌, ◌<◌, Bool, true, false, true≢false, List, [], ◌∷◌, length, map, All, get_or, slice_index, inl, inr, arith}
+use Rattle.std.proofs.Common.{◌≡◌, ◌⊎◌, refl, sym, ◌∙◌, subst, ℕ, zero, suc, ◌<◌, Bool, true, false, true≢false, List, [], ◌∷◌, length, map, slice_index, inl, inr, arith}
 use Rattle.std.specs.Prelude.{◌↔◌, IsTrue}
 use Rattle.std.specs.List.{range_with_len}
 use Rattle.std.proofs.lemmas.Bool.{cases_eq}
 use Rattle.std.proofs.lemmas.List.FromFn.{get_or-map-range_with_len, length-map-range_with_len}
 use Rattle.std.proofs.lemmas.Grind.{same_number_lists}
 use Rattle.net_values.specs.Net.{Net}
-use Rattle.net_values.specs.declared.token_game.FireFault.{FireFault}
 use Rattle.incidence.specs.Semiflow.{IsSemiflow, all_columns}
 use Rattle.net_replay.specs.declared.replayed.Replay.{Replay}
-use Rattle.net_replay.specs.Replays.{FiresTo, FiresWithinRange, FailsAt, IsCountVector, occurrences, by_transition, Returns, IsReplay}
+use Rattle.net_replay.specs.Replays.{FiresTo, IsCountVector, occurrences, by_transition, Returns, IsReplay}
 use Rattle.net_replay.specs.Laws.{AReplayOrAFailure, OneReplay}
 use Rattle.net_replay.proofs.Firing.{Agree, one_end, reaches, to_agreeing}
 use Rattle.net_replay.proofs.Failing.{walked, as_failure, one_failure, never_both}

@@ -1,8 +1,8 @@
 -- Reading a firing list line by line: each line that was read is that of the transition that was found for it, and where
 -- none is found, or no line feed follows, the next line is the bad one. Bytes have one list of lines, so one reading.
-use Rattle.std.proofs.Common.{◌≡◌, ◌≢◌, ◌⊎◌, refl, sym, ap, ◌∙◌, subst, ℕ, zero, suc, ◌+◌, ◌<◌, ◌≤◌, List, [], ◌∷◌, ◌++◌, length, All, Option, Some, None, true≢false, inl, inr, append_assoc, append-nil, arith}
+use Rattle.std.proofs.Common.{◌≡◌, ◌≢◌, refl, sym, ap, ◌∙◌, subst, ℕ, zero, suc, ◌+◌, ◌<◌, List, [], ◌∷◌, ◌++◌, length, All, Option, Some, None, true≢false, inl, inr, append_assoc, append-nil, arith}
 use Rattle.std.specs.List.{AllZip, AllByRecursion}
-use Rattle.std.proofs.lemmas.Bool.{cases_order, cases_Bool}
+use Rattle.std.proofs.lemmas.Bool.{cases_order}
 use Rattle.std.proofs.lemmas.List.{append_cancel_right}
 use Rattle.std.proofs.lemmas.Grind.{flat_map-append}
 use Rattle.std.proofs.lemmas.Slice.Eq.{bytes_eq-Decides}
@@ -13,9 +13,9 @@ use Rattle.certificates.proofs.Cuts.{IsFree}
 use Rattle.certificates.proofs.LineSplits.{bytes_of, same_lines, has_lines}
 use Rattle.certificates.proofs.Lists.{all_each, each_all, each_append}
 use Rattle.certificates.proofs.ReadLines.{NoFeed}
-use Rattle.net_replay.specs.FiringLists.{SpellsId, IsFiringLine, HasNoTransition, ListsFirings, EndsFirings, IsBadFiringLine}
+use Rattle.net_replay.specs.FiringLists.{IsFiringLine, HasNoTransition, ListsFirings, EndsFirings, IsBadFiringLine}
 use Rattle.net_replay.specs.Laws.{AFiringListOrABadLine, OneFiringList}
-use Rattle.net_replay.specs.Numbers.{IsLowestWith, IsFoundFrom}
+use Rattle.net_replay.specs.Numbers.{IsFoundFrom}
 use Rattle.net_replay.proofs.Lowest.{lowest_or_none}
 
 module _ (net : Net) (ids : ℕ → List ℕ) where

@@ -58,11 +58,12 @@ fn count_firings(alloc: Global, net: &FlatNet, list: &Firings) -> Result<Vector,
     requires { All (λ t. t < (net_of net.now).transitions) list.now }
     ensures { IfOk result (IsCountVector (net_of net.now) list.now) }
 {
-    let mut counts = vec![in alloc; 0u128; net.transitions()]?;
+    let mut counts = Vector::zeros(alloc, net.transitions())?;
     for t in list.as_slice() {
-        counts[*t as usize] += 1;
+        let count = counts.get(*t as usize);
+        counts.set(*t as usize, count + 1);
     }
-    Vector::from_entries(alloc, counts)
+    Ok(counts)
 }
 
 /// Whether something fired and the marking that was reached is the initial one.

@@ -1,5 +1,5 @@
 -- Each line is that of the transition that the table has for it, or the bad one; and so is what has no line feed.
-use Rattle.std.proofs.Common.{rules, ◌≡◌, ◌≢◌, ◌∙◌, sym, subst, ap, ℕ, ◌+◌, ◌≤◌, List, [], ◌∷◌, ◌++◌, Option, Some, None, length, arith}
+use Rattle.std.proofs.Common.{rules, ◌≡◌, ◌∙◌, sym, subst, ap, ◌+◌, ◌≤◌, [], ◌∷◌, ◌++◌, Some, None, length, arith}
 use Rattle.std.proofs.lemmas.List.{length_push}
 use Rattle.certificates.specs.Words.{before, from_first}
 use Rattle.certificates.proofs.ReadLines.{line_parts, line_free, rest_free, nothing_left}
@@ -7,7 +7,7 @@ use Rattle.net_values.specs.FlatNets.{net_of}
 use Rattle.net_values.specs.Nodes.{transition_id}
 use Rattle.net_replay.specs.FiringLists.{IsBadFiringLine}
 use Rattle.net_replay.specs.Numbers.{IsFoundFrom}
-use Rattle.net_replay.proofs.Reading.{read_start, read_more, line_is_bad, rest_is_bad, all_read, found_line, no_line, all_within}
+use Rattle.net_replay.proofs.Reading.{read_more, line_is_bad, rest_is_bad, all_read, found_line, no_line, all_within}
 use Rattle.net_replay.proofs.firings.read_firings.Goals as goal
 
 pub returns-in-None-clause-bad : goal.returns-in-None-clause-bad

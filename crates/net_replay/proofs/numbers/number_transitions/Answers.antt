@@ -1,5 +1,5 @@
 -- The transition before the first one is put in last.
-use Rattle.std.proofs.Common.{◌≡◌, ◌∙◌, ap, subst, sym, ℕ, ◌+◌, ◌-◌, ◌<◌, ◌≤◌, Some, arith}
+use Rattle.std.proofs.Common.{◌≡◌, ◌∙◌, subst, ◌+◌, ◌-◌, ◌<◌, ◌≤◌, Some, arith}
 use Rattle.std.proofs.lemmas.Map.Text.{hash_map_updates_str}
 use Rattle.net_values.specs.FlatNets.{net_of}
 use Rattle.net_values.specs.Nodes.{transition_id}

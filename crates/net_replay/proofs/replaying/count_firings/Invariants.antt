@@ -4,4 +4,4 @@ use Rattle.net_replay.specs.Replays.{IsCountVector}
 use Rattle.net_replay.proofs.replaying.count_firings.Given as goal
 
 abbrev pub invariant-loop-t : goal.invariant-loop-t
-invariant-loop-t l = IsCountVector (net_of l.net) (take l.t-index l.list) l.counts.items
+invariant-loop-t l = IsCountVector (net_of l.net) (take l.t-index l.list) l.counts
