@@ -1,9 +1,9 @@
 -- Masks keep the order of supports: each position adds its bit to the second mask where it adds it to the
 -- first, and `or` works bit by bit. So a test of the masks refuses only pairs that the test of the entries
 -- refuses too.
-use Rattle.std.proofs.Common.{◌≡◌, ◌+◌, ◌*◌, ◌<◌, ◌≤◌, ◌%◌, ◌^◌, refl, sym, ap, ◌∙◌, ℕ, zero, suc, max, nat_lt, Bool, true, false, cond, List, [], ◌∷◌, ◌++◌, length, map, get_or, take, drop, remove, slice_index, arith}
+use Rattle.std.proofs.Common.{◌≡◌, ◌+◌, ◌*◌, ◌<◌, ◌≤◌, ◌%◌, ◌^◌, refl, sym, ap, ◌∙◌, subst, ℕ, zero, suc, max, nat_lt, Bool, true, false, cond, List, [], ◌∷◌, ◌++◌, length, map, get_or, take, drop, remove, slice_index, inl, inr, arith}
 use Rattle.std.specs.Prelude.{◌==◌, bit_or}
-use Rattle.std.proofs.lemmas.Bool.{false≢true}
+use Rattle.std.proofs.lemmas.Bool.{cases_eq, false≢true}
 use Rattle.std.proofs.lemmas.Bool.Decides.{nat_tests}
 use Rattle.std.proofs.lemmas.Nat.Bits.{bit_at_or, same_from_bits}
 use Rattle.std.proofs.lemmas.Nat.{one_shl}
@@ -11,6 +11,7 @@ use Rattle.std.proofs.lemmas.List.{get_or-map, map-append}
 use Rattle.std.specs.List.{drop-map}
 use Rattle.std.proofs.Math.Nat.{mod-lt}
 use Rattle.net_values.specs.TheList.{HaveOneLength}
+use Rattle.net_values.specs.Vectors.{AreZerosFrom, IsFirstPositive, WalkValue}
 use Rattle.std.specs.Int.{bit_at}
 use Rattle.support_prune.specs.Masks.{mask_below, mask_of, masks_of}
 use Rattle.support_prune.specs.Supports.{IsWithin, is_within}
@@ -99,3 +100,27 @@ masks_removed rows i =
     map-append mask_of (take i rows) (drop (suc i) rows)
     ∙ ap (λ (l : List ℕ). l ++ map mask_of (drop (suc i) rows)) (map-take mask_of i rows)
     ∙ ap (λ (l : List ℕ). take i (masks_of rows) ++ l) (sym (drop-map mask_of (suc i) rows))
+
+-- positions of zeros add no bit
+mask_gap : (row : List ℕ) (from to : ℕ) → from ≤ to → ((i : ℕ) → from ≤ i → i < to → slice_index row i ≡ 0) → mask_below row to ≡ mask_below row from
+mask_gap row from zero order zeros = ap (mask_below row) (let same : 0 ≡ from = omega arith in same)
+mask_gap row from (suc to) order zeros =
+    elim (cases_eq from (suc to)) [
+      | inl same ↦ ap (mask_below row) (sym same)
+      | inr other ↦
+          let none = zeros to (omega arith) (omega arith) in
+          let next : suc to ≡ to + 1 = omega arith in
+          ap (mask_below row) next ∙ sym (mask_passed row to (mask_below row to) (mask_below row to) refl (omega arith) refl)
+          ∙ mask_gap row from to (omega arith) (λ i late under. zeros i late (omega arith))
+    ]
+
+module _ (row : List ℕ) (walk : WalkValue) (mask : ℕ) (same : walk.entries ≡ row) (so_far : mask ≡ mask_below row walk.from) where
+  pub mask_walked : (p entry next new : ℕ) → IsFirstPositive walk.entries walk.from p entry → next ≡ p + 1 → new ≡ bit_or mask (1 * 2 ^ (p % 128) % 2 ^ 128) → new ≡ mask_below row next
+  mask_walked p entry next new found to is =
+      let first = subst (λ (es : List ℕ). IsFirstPositive es walk.from p entry) same found in
+      let some : 0 < slice_index row p = let here = first.here in let positive = first.positive in omega arith in
+      mask_taken row p mask new (so_far ∙ sym (mask_gap row walk.from p first.zeros.order first.zeros.zeros)) some is ∙ ap (mask_below row) (sym to)
+
+  pub mask_whole : walk.from ≤ length row → AreZerosFrom walk.entries walk.from → mask ≡ mask_of row
+  mask_whole within zeros =
+      so_far ∙ sym (mask_gap row walk.from (length row) within (λ i late under. subst (λ (es : List ℕ). slice_index es i ≡ 0) same (zeros i late)))

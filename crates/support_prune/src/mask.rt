@@ -9,12 +9,10 @@ use net_values::Vector;
 pub(crate) fn mask_of(row: &Vector) -> u128
     ensures { result ≡ mask_in_words row.now }
 {
-    let entries = row.as_slice();
     let mut mask = 0;
-    for i in 0..entries.len() {
-        if entries[i] > 0 {
-            mask |= 1 << (i % 128);
-        }
+    let mut walk = row.walk();
+    'entries: while let Some((i, _)) = walk.next() {
+        mask |= 1 << (i % 128);
     }
     mask
 }

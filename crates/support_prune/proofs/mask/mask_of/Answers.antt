@@ -1,12 +1,17 @@
-use Rattle.std.proofs.Common.{arith}
-use Rattle.support_prune.proofs.MaskLemmas.{mask_taken, mask_passed}
+use Rattle.std.proofs.Common.{◌∙◌, ap, length, refl, arith}
+use Rattle.support_prune.proofs.MaskLemmas.{mask_walked, mask_whole}
 use Rattle.support_prune.proofs.mask.mask_of.Goals as goal
-use Rattle.support_prune.proofs.mask.mask_of.Goals.{then-entries-i-gt0, else-entries-i-gt0}
 
-pub loop-i-preserved : goal.loop-i-preserved
-loop-i-preserved c =
-    let entries = c.as_slice-entries.result.now in
-    elim c.if-entries-i-gt0.branch [
-      | then-entries-i-gt0 w ↦ mask_taken entries c.loop-i.i c.loop-i.mask c.if-entries-i-gt0.mask c.loop-i.invariant w.if-entries-i-gt0.true w.mask-is
-      | else-entries-i-gt0 w ↦ mask_passed entries c.loop-i.i c.loop-i.mask c.if-entries-i-gt0.mask c.loop-i.invariant (omega (arith, w.if-entries-i-gt0.false)) w.mask-is
-    ]
+pub entries-preserved : goal.entries-preserved
+entries-preserved c =
+    let from = c.in-Some.ensures.from in
+    let under = c.in-Some.ensures.next.within in
+    let same = c.entries.invariant.same in
+    record {
+      same = c.in-Some.ensures.same ∙ same;
+      within = omega (arith, ap length same);
+      mask = mask_walked c.args.row.now c.entries.walk c.entries.mask same c.entries.invariant.mask c.in-Some.i c.in-Some.field-0-1 c.next.new.self.from _ c.in-Some.ensures.next from refl;
+    }
+
+pub returns : goal.returns
+returns c = mask_whole c.args.row.now c.entries.walk c.entries.mask c.entries.invariant.same c.entries.invariant.mask c.entries.invariant.within c.in_default.ensures.next
