@@ -1,7 +1,7 @@
 -- An element with children is a start tag, the children and an end tag, and each label has a child, its
 -- `text`. What remains is to regroup.
 use Rattle.std.proofs.Common.{◌≡◌, ◌≢◌, ℕ, ◌<◌, ◌^◌, length, arith, List, [], ◌∷◌, ◌++◌, refl, ap, ◌∙◌, append-nil, sym, Bool, true, false, Option, Some, None, Result}
-use Rattle.std.specs.Prelude.{codes, decimal, nat_eq, is_some, OnOk}
+use Rattle.std.specs.Prelude.{codes, decimal, nat_eq, is_some, OnOk, MatchBool}
 use Rattle.std.proofs.lemmas.Fmt.{decimal_nonempty}
 use Rattle.std.proofs.lemmas.Bool.{ne_eqb, eq-eqb, both_ways, false≢true, eqb-true}
 use Rattle.std.proofs.lemmas.List.{nil_from_length}
@@ -73,15 +73,28 @@ pub name_some : (name : Option (List ℕ)) → true ≡ is_some name → name_te
 name_some None never e = false≢true (sym never)
 name_some (Some name) some e = label_some (escaped name) e
 
-pub marking_some : (n : ℕ) → n < 2 ^ 64 → n ≢ 0 → marking_text n ≢ []
+marking_some : (n : ℕ) → n < 2 ^ 64 → n ≢ 0 → marking_text n ≢ []
 marking_some n small other e =
     let opened : codes "<initialMarking><text>" ++ decimal n ++ codes "</text></initialMarking>" ≡ [] = marking_full n small other ∙ e in
     cc
 
-pub weight_some : (n : ℕ) → n < 2 ^ 64 → n ≢ 1 → weight_text n ≢ []
+weight_some : (n : ℕ) → n < 2 ^ 64 → n ≢ 1 → weight_text n ≢ []
 weight_some n small other e =
     let opened : codes "<inscription><text>" ++ decimal n ++ codes "</text></inscription>" ≡ [] = weight_full n small other ∙ e in
     cc
+
+-- a number is compared with the usual one
+decided : {P Q : Type 0} (test : Bool) → (test ≡ true → P) → (test ≡ false → Q) → MatchBool test P Q
+decided true holds fails = holds refl
+decided false holds fails = fails refl
+
+pub usual_marking : (n : ℕ) → n < 2 ^ 64 → MatchBool (nat_eq n 0) (marking_text n ≡ []) (marking_text n ≢ [])
+usual_marking n small =
+    decided (nat_eq n 0) (λ e. marking_none n (eqb-true n 0 e)) (λ e. marking_some n small (λ zero. false≢true (sym e ∙ eq-eqb n 0 zero)))
+
+pub usual_weight : (n : ℕ) → n < 2 ^ 64 → MatchBool (nat_eq n 1) (weight_text n ≡ []) (weight_text n ≢ [])
+usual_weight n small =
+    decided (nat_eq n 1) (λ e. weight_none n (eqb-true n 1 e)) (λ e. weight_some n small (λ one. false≢true (sym e ∙ eq-eqb n 1 one)))
 
 pub after_full : (children end : List ℕ) → children ≢ [] → codes ">" ++ children ++ end ≡ after_attributes children end
 after_full [] end some = absurd (some refl)

@@ -1,4 +1,4 @@
--- Only clauses of private functions and lemmas cite these; what a canonical text is stands in pnml_grammar.
+-- Only clauses of private functions and lemmas cite these; what a canonical text is, pnml_grammar says.
 pub mod Escapes
 pub mod Elements
 pub mod Pages

@@ -1,15 +1,15 @@
-ghost use Rattle.std.specs.Prelude.{◌≡◌, [], ◌∷◌, ◌++◌, OnOk, codes, decimal};
+ghost use Rattle.std.specs.Prelude.{◌≡◌, ◌≢◌, [], ◌∷◌, ◌++◌, MatchBool, OnOk, codes, decimal};
 ghost use Rattle.pnml_grammar.specs.Canon.{escaped, label, name_text, marking_text, weight_text};
-ghost use Rattle.pnml_write.specs.Elements.{after_attributes};
+ghost use Rattle.pnml_write.specs.Elements.{after_attributes, label_text};
 
 use crate::escapes::push_value;
 use net_values::{NoMemory, Text};
 
 /// The initial marking that isn't written.
-pub(crate) const USUAL_MARKING: u64 = 0;
+const USUAL_MARKING: u64 = 0;
 
 /// The weight that isn't written.
-pub(crate) const USUAL_WEIGHT: u64 = 1;
+const USUAL_WEIGHT: u64 = 1;
 
 /// Appends an attribute: what opens it, up to its first quote, its value and the other quote.
 pub(crate) fn push_attribute(text: &mut Text, opening: &str, value: &Text) -> Result<(), NoMemory>
@@ -43,8 +43,37 @@ pub(crate) fn push_name_if_any(text: &mut Text, name: &Option<Text>) -> Result<(
     }
 }
 
+/// A label with a number: a place's initial marking, or an arc's weight.
+#[derive(Clone, Copy)]
+pub(crate) enum NumberLabel {
+    Marking(u64),
+    Weight(u64),
+}
+
+impl NumberLabel {
+    /// Whether the number is that of an absent label, so that none is written.
+    pub(crate) fn is_usual(self) -> bool
+        ensures { MatchBool result (label_text self ≡ []) (label_text self ≢ []) }
+    {
+        match self {
+            NumberLabel::Marking(tokens) => tokens == USUAL_MARKING,
+            NumberLabel::Weight(weight) => weight == USUAL_WEIGHT,
+        }
+    }
+}
+
+/// Appends a label with a number, where the number isn't the usual one.
+pub(crate) fn push_label(text: &mut Text, label: NumberLabel) -> Result<(), NoMemory>
+    ensures { OnOk result (text.new ≡ text.old ++ label_text label) }
+{
+    match label {
+        NumberLabel::Marking(tokens) => push_marking(text, tokens),
+        NumberLabel::Weight(weight) => push_weight(text, weight),
+    }
+}
+
 /// Appends the label with a place's initial marking, where it isn't 0.
-pub(crate) fn push_marking(text: &mut Text, tokens: u64) -> Result<(), NoMemory>
+fn push_marking(text: &mut Text, tokens: u64) -> Result<(), NoMemory>
     ensures { OnOk result (text.new ≡ text.old ++ marking_text tokens) }
 {
     if tokens == USUAL_MARKING {
@@ -59,7 +88,7 @@ pub(crate) fn push_marking(text: &mut Text, tokens: u64) -> Result<(), NoMemory>
 }
 
 /// Appends the label with an arc's weight, where it isn't 1.
-pub(crate) fn push_weight(text: &mut Text, weight: u64) -> Result<(), NoMemory>
+fn push_weight(text: &mut Text, weight: u64) -> Result<(), NoMemory>
     ensures { OnOk result (text.new ≡ text.old ++ weight_text weight) }
 {
     if weight == USUAL_WEIGHT {

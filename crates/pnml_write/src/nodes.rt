@@ -1,12 +1,9 @@
 ghost use Rattle.std.specs.Prelude.{◌≡◌, [], ◌∷◌, ◌++◌, OnOk, codes};
 ghost use Rattle.net_values.specs.declared.document.Item.TheVariants.{Page, Place, Transition, RefPlace, RefTransition, Arc};
-ghost use Rattle.pnml_grammar.specs.Canon.{escaped, element, id_attribute, name_text, marking_text, weight_text, item_text};
-ghost use Rattle.pnml_write.specs.Elements.{after_attributes};
+ghost use Rattle.pnml_grammar.specs.Canon.{escaped, element, id_attribute, name_text, item_text};
+ghost use Rattle.pnml_write.specs.Elements.{after_attributes, label_text};
 
-use crate::elements::{
-    USUAL_MARKING, USUAL_WEIGHT, push_attribute, push_marking, push_name_if_any, push_named_rest,
-    push_weight,
-};
+use crate::elements::{NumberLabel, push_attribute, push_label, push_name_if_any, push_named_rest};
 use net_values::{ArcNode, NoMemory, PageNode, PlaceNode, RefNode, Text, TransitionNode};
 
 /// Appends a place.
@@ -14,21 +11,32 @@ pub(crate) fn push_place(text: &mut Text, place: &PlaceNode) -> Result<(), NoMem
     ensures { OnOk result (text.new ≡ text.old ++ item_text (Place place.now)) }
 {
     push_attribute(text, "<place id=\"", &place.id)?;
-    push_place_rest(text, place)
+    push_labelled_rest(
+        text,
+        &place.name,
+        NumberLabel::Marking(place.initial),
+        "</place>",
+    )
 }
 
-/// Appends what follows a place's id.
-fn push_place_rest(text: &mut Text, place: &PlaceNode) -> Result<(), NoMemory>
-    ensures { let labels = name_text place.now.name ++ marking_text place.now.initial in
-        OnOk result (text.new ≡ text.old ++ after_attributes labels (codes "</place>")) }
+/// Appends what follows the attributes of an element whose children may be a name and a label with
+/// a number.
+fn push_labelled_rest(
+    text: &mut Text,
+    name: &Option<Text>,
+    label: NumberLabel,
+    end: &str,
+) -> Result<(), NoMemory>
+    ensures { let labels = name_text name.now ++ label_text label in
+        OnOk result (text.new ≡ text.old ++ after_attributes labels end.now) }
 {
-    if place.initial == USUAL_MARKING {
-        return push_named_rest(text, &place.name, "</place>");
+    if label.is_usual() {
+        return push_named_rest(text, name, end);
     }
     text.push(">")?;
-    push_name_if_any(text, &place.name)?;
-    push_marking(text, place.initial)?;
-    text.push("</place>")
+    push_name_if_any(text, name)?;
+    push_label(text, label)?;
+    text.push(end)
 }
 
 /// Appends a transition.
@@ -64,21 +72,7 @@ pub(crate) fn push_arc(text: &mut Text, arc: &ArcNode) -> Result<(), NoMemory>
     push_attribute(text, "<arc id=\"", &arc.id)?;
     push_attribute(text, " source=\"", &arc.source)?;
     push_attribute(text, " target=\"", &arc.target)?;
-    push_arc_rest(text, arc)
-}
-
-/// Appends what follows an arc's attributes.
-fn push_arc_rest(text: &mut Text, arc: &ArcNode) -> Result<(), NoMemory>
-    ensures { let labels = name_text arc.now.name ++ weight_text arc.now.weight in
-        OnOk result (text.new ≡ text.old ++ after_attributes labels (codes "</arc>")) }
-{
-    if arc.weight == USUAL_WEIGHT {
-        return push_named_rest(text, &arc.name, "</arc>");
-    }
-    text.push(">")?;
-    push_name_if_any(text, &arc.name)?;
-    push_weight(text, arc.weight)?;
-    text.push("</arc>")
+    push_labelled_rest(text, &arc.name, NumberLabel::Weight(arc.weight), "</arc>")
 }
 
 /// Appends the start of a page that has items.

@@ -14,8 +14,8 @@ returns c =
     let id = quoted (codes "<arc id=") arc.id in
     let source = quoted (codes " source=") arc.source in
     let target = quoted (codes " target=") arc.target in
-    finished c.push_arc_rest.result c.args.text.now c.push_attribute-3.new.text c.push_arc_rest.new.text (id ++ source ++ target) (after_attributes (name_text arc.name ++ weight_text arc.weight) (codes "</arc>")) (item_text (Arc arc))
+    finished c.push_labelled_rest.result c.args.text.now c.push_attribute-3.new.text c.push_labelled_rest.new.text (id ++ source ++ target) (after_attributes (name_text arc.name ++ weight_text arc.weight) (codes "</arc>")) (item_text (Arc arc))
     (joined c.args.text.now c.push_attribute-2.new.text c.push_attribute-3.new.text (id ++ source) target
     (joined c.args.text.now c.push_attribute.new.text c.push_attribute-2.new.text id source c.in_ok-push_attribute.ensures c.in_ok-push_attribute-2.ensures)
     c.in_ok-push_attribute-3.ensures)
-    (arc_is arc) c.push_arc_rest.ensures
+    (arc_is arc) c.push_labelled_rest.ensures

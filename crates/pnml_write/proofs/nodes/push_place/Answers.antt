@@ -11,5 +11,5 @@ use Rattle.pnml_write.proofs.nodes.push_place.Goals as goal
 pub returns : goal.returns
 returns c =
     let node = c.args.place.now in
-    finished c.push_place_rest.result c.args.text.now c.push_attribute.new.text c.push_place_rest.new.text (quoted (codes "<place id=") node.id) (after_attributes (name_text node.name ++ marking_text node.initial) (codes "</place>")) (item_text (Place node))
-    c.in_ok-push_attribute.ensures (place_is node) c.push_place_rest.ensures
+    finished c.push_labelled_rest.result c.args.text.now c.push_attribute.new.text c.push_labelled_rest.new.text (quoted (codes "<place id=") node.id) (after_attributes (name_text node.name ++ marking_text node.initial) (codes "</place>")) (item_text (Place node))
+    c.in_ok-push_attribute.ensures (place_is node) c.push_labelled_rest.ensures
