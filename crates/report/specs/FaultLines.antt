@@ -81,9 +81,13 @@ wide_row_line id = wide_line (codes "wide row") id
 unfoldable pub wide_bound_line : ℕ → List ℕ
 wide_bound_line row = joined (codes "wide bound in semiflow " ∷ decimal (row + 1) ∷ codes "\n" ∷ [])
 
+-- a number, told from 1, and an id, between words
+unfoldable pub member_line : List ℕ → ℕ → List ℕ → List ℕ → List ℕ → List ℕ
+member_line front number between id rear = joined (front ∷ decimal (number + 1) ∷ between ∷ id ∷ rear ∷ [])
+
 -- a sum of a semiflow at the column of an id is out of range
 unfoldable pub wide_check_line : ℕ → List ℕ → List ℕ
-wide_check_line row id = joined (codes "wide sum in semiflow " ∷ decimal (row + 1) ∷ codes " at " ∷ id ∷ codes "\n" ∷ [])
+wide_check_line row id = member_line (codes "wide sum in semiflow ") row (codes " at ") id (codes "\n")
 
 -- an elimination has more candidates at the column of an id than the budget
 unfoldable pub budget_line : ℕ → List ℕ → ℕ → List ℕ
@@ -118,10 +122,10 @@ abbrev pub firing_malformed_line : ℕ → List ℕ
 firing_malformed_line number = numbered_line (codes "firing list malformed") number
 
 unfoldable pub firing_rejected_line : ℕ → List ℕ → List ℕ
-firing_rejected_line member id = joined (codes "firing list rejected at line " ∷ decimal (member + 1) ∷ codes ": " ∷ id ∷ codes " lacks tokens\n" ∷ [])
+firing_rejected_line member id = member_line (codes "firing list rejected at line ") member (codes ": ") id (codes " lacks tokens\n")
 
 unfoldable pub wide_marking_line : ℕ → List ℕ → List ℕ
-wide_marking_line member id = joined (codes "wide marking at line " ∷ decimal (member + 1) ∷ codes " in " ∷ id ∷ codes "\n" ∷ [])
+wide_marking_line member id = member_line (codes "wide marking at line ") member (codes " in ") id (codes "\n")
 
 -- the words mean nothing, the input is too long, a device failed
 abbrev pub usage_line : List ℕ

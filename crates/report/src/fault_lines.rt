@@ -1,6 +1,6 @@
 ghost use Rattle.std.specs.Prelude.{map};
 ghost use Rattle.pnml_source.specs.Writing.{IsWritten};
-ghost use Rattle.report.specs.FaultLines.{joined, offset_line, id_line, unknown_line, no_net_line, rule_line, wide_line, wide_bound_line, wide_check_line, wide_marking_line, numbered_line, firing_rejected_line, budget_line, limit_line};
+ghost use Rattle.report.specs.FaultLines.{joined, offset_line, id_line, unknown_line, no_net_line, rule_line, wide_line, wide_bound_line, member_line, numbered_line, budget_line, limit_line};
 ghost use Rattle.report.specs.Refusals.{line_of, fault_line, excess_line};
 
 use crate::reason_words::reason_words;
@@ -28,7 +28,14 @@ pub fn tell<O: Sink>(sink: &mut O, refusal: &Refusal) -> Result<(), WriteFault>
         Refusal::MalformedPending(number) => tell_line(sink, b"pending malformed", *number),
         Refusal::RejectedPending(number) => tell_line(sink, b"pending rejected", *number),
         Refusal::MalformedFiring(number) => tell_line(sink, b"firing list malformed", *number),
-        Refusal::RejectedFiring(member, id) => tell_rejected_firing(sink, *member, id),
+        Refusal::RejectedFiring(member, id) => tell_member(
+            sink,
+            b"firing list rejected at line ",
+            *member,
+            b": ",
+            id,
+            b" lacks tokens\n",
+        ),
         Refusal::TooLong => write_all(sink, b"input too long\n"),
         Refusal::ReadFault => write_all(sink, b"read fault\n"),
         Refusal::WriteFault => write_all(sink, b"write fault\n"),
@@ -71,8 +78,12 @@ fn tell_excess<O: Sink>(sink: &mut O, excess: &Excess) -> Result<(), WriteFault>
         Excess::WideSum(id) => tell_wide(sink, b"wide sum", id),
         Excess::WideRow(id) => tell_wide(sink, b"wide row", id),
         Excess::WideBound(row) => tell_wide_bound(sink, *row),
-        Excess::WideCheck(row, id) => tell_wide_check(sink, *row, id),
-        Excess::WideMarking(member, id) => tell_wide_marking(sink, *member, id),
+        Excess::WideCheck(row, id) => {
+            tell_member(sink, b"wide sum in semiflow ", *row, b" at ", id, b"\n")
+        }
+        Excess::WideMarking(member, id) => {
+            tell_member(sink, b"wide marking at line ", *member, b" in ", id, b"\n")
+        }
         Excess::RowBudget(budget, id, count) => tell_budget(sink, *budget, id, *count),
         Excess::SetLimit(limit) => tell_limit(sink, *limit),
     }
@@ -94,23 +105,21 @@ fn tell_wide_bound<O: Sink>(sink: &mut O, row: usize) -> Result<(), WriteFault>
     write_pieces(sink, &[b"wide bound in semiflow ", number, b"\n"])
 }
 
-#[tactic(auto, unfolding(crate::specs::FaultLines::wide_check_line))]
-fn tell_wide_check<O: Sink>(sink: &mut O, row: usize, id: &Text) -> Result<(), WriteFault>
-    ensures { IsWritten (O.held sink.old) (O.held sink.new) (O.faults sink.old) (O.faults sink.new) (wide_check_line row id.now) result }
+/// A number, told from 1, and an id, between words.
+fn tell_member<O: Sink>(
+    sink: &mut O,
+    front: &'static [u8],
+    number: usize,
+    between: &'static [u8],
+    id: &Text,
+    rear: &'static [u8],
+) -> Result<(), WriteFault>
+    ensures { IsWritten (O.held sink.old) (O.held sink.new) (O.faults sink.old) (O.faults sink.new) (member_line front.now number between.now id.now rear.now) result }
 {
     let mut buffer = Buffer::new();
-    let row_number = row as u128 + 1;
-    let digits = buffer.format(row_number).as_bytes();
-    write_pieces(
-        sink,
-        &[
-            b"wide sum in semiflow ",
-            digits,
-            b" at ",
-            id.as_bytes(),
-            b"\n",
-        ],
-    )
+    let line = number as u128 + 1;
+    let digits = buffer.format(line).as_bytes();
+    write_pieces(sink, &[front, digits, between, id.as_bytes(), rear])
 }
 
 #[tactic(auto, unfolding(crate::specs::FaultLines::budget_line))]
@@ -152,46 +161,6 @@ fn tell_line<O: Sink>(sink: &mut O, words: &[u8], number: u64) -> Result<(), Wri
     let mut buffer = Buffer::new();
     let digits = buffer.format(number).as_bytes();
     write_pieces(sink, &[words, b" at line ", digits, b"\n"])
-}
-
-/// The line of a firing list whose transition isn't enabled, and the place that lacks tokens.
-#[tactic(auto, unfolding(crate::specs::FaultLines::firing_rejected_line))]
-fn tell_rejected_firing<O: Sink>(sink: &mut O, member: usize, id: &Text) -> Result<(), WriteFault>
-    ensures { IsWritten (O.held sink.old) (O.held sink.new) (O.faults sink.old) (O.faults sink.new) (firing_rejected_line member id.now) result }
-{
-    let mut buffer = Buffer::new();
-    let number = member as u128 + 1;
-    let digits = buffer.format(number).as_bytes();
-    write_pieces(
-        sink,
-        &[
-            b"firing list rejected at line ",
-            digits,
-            b": ",
-            id.as_bytes(),
-            b" lacks tokens\n",
-        ],
-    )
-}
-
-/// The line of a firing list whose transition would give a place too many tokens.
-#[tactic(auto, unfolding(crate::specs::FaultLines::wide_marking_line))]
-fn tell_wide_marking<O: Sink>(sink: &mut O, member: usize, id: &Text) -> Result<(), WriteFault>
-    ensures { IsWritten (O.held sink.old) (O.held sink.new) (O.faults sink.old) (O.faults sink.new) (wide_marking_line member id.now) result }
-{
-    let mut buffer = Buffer::new();
-    let number = member as u128 + 1;
-    let digits = buffer.format(number).as_bytes();
-    write_pieces(
-        sink,
-        &[
-            b"wide marking at line ",
-            digits,
-            b" in ",
-            id.as_bytes(),
-            b"\n",
-        ],
-    )
 }
 
 /// At an offset in the input, by the words of the reason.

@@ -17,16 +17,16 @@ pub enum Refusal {
     Rule(u32, FlatFault),
     /// A number is out of range, or a list out of reach.
     Excess(Excess),
-    /// The bytes behind the document spell no certificate, by this line, counted from 1.
+    /// The bytes after the document spell no certificate, by this line, counted from 1.
     Malformed(u64),
     /// The condition of this line of the certificate, counted from 1, is false of the net.
     Rejected(u64),
-    /// The bytes behind the document begin with no pending token, by this line, counted from 1.
+    /// The bytes after the document begin with no pending token, by this line, counted from 1.
     MalformedPending(u64),
     /// The class of this line of the pending token, counted from 1, has a place that the net lacks or isn't disjoint
     /// from that of an earlier line.
     RejectedPending(u64),
-    /// The bytes behind the document are no firing list, by this line, counted from 1.
+    /// The bytes after the document are no firing list, by this line, counted from 1.
     MalformedFiring(u64),
     /// The transition of this member of the firing list, counted from 0, isn't enabled: the place of this id
     /// lacks tokens.

@@ -1,4 +1,5 @@
--- The lines that are the same for every run.
+-- The lines that are the same for every run, and those of a number.
+use Rattle.report.specs.FaultLines.{firing_rejected_line}
 use Rattle.report.proofs.fault_lines.tell.Goals as goal
 
 pub returns-in-Usage : goal.returns-in-Usage
@@ -27,3 +28,7 @@ returns-in-RejectedPending g c = rw c.in-RejectedPending.is c.tell_line-in-Rejec
 
 pub returns-in-MalformedFiring : goal.returns-in-MalformedFiring
 returns-in-MalformedFiring g c = rw c.in-MalformedFiring.is c.tell_line-in-MalformedFiring.ensures
+
+pub returns-in-RejectedFiring : goal.returns-in-RejectedFiring
+unfolding firing_rejected_line
+returns-in-RejectedFiring g c = rw c.in-RejectedFiring.is c.tell_member.ensures

@@ -1,8 +1,0 @@
--- A number and an id in one line.
-use Rattle.report.specs.FaultLines.{wide_marking_line}
-use Rattle.report.proofs.fault_lines.tell_wide_marking.Goals as goal
-
-pub returns : goal.returns
-unfolding wide_marking_line
-returns g c =
-    rw (← c.format.ensures.text, ← c.as_bytes-digits.ensures.value, ← c.as_bytes.ensures.value) c.write_pieces.ensures
