@@ -48,7 +48,7 @@ pub extern "C" fn pnmlstruct_run(
     ensures out_within { written.new.out ≤ length out.new }
     ensures err_within { written.new.err ≤ length err.new }
 
-    // What is behind the bytes told stays as it was.
+    // What comes after the bytes told stays as it was.
     ensures out_rest { drop written.new.out out.new ≡ drop written.new.out out.old }
     ensures err_rest { drop written.new.err err.new ≡ drop written.new.err err.old }
 {
