@@ -1,3 +1,5 @@
+mod pieces;
+
 use crate::{Step, TokenFault, token_at};
 use pnml_grammar::{Attributes, Token};
 use std::alloc::{AllocError, Global};
