@@ -19,7 +19,10 @@ fn is_list(rows: &Rows, count: usize, entries: &[Entry]) -> bool {
     };
     rows.len() == count
         && rows.as_slice().iter().enumerate().all(|(number, row)| {
-            (0..row.len()).all(|position| row.entry_at(position) == wanted(number, position))
+            row.as_slice()
+                .iter()
+                .enumerate()
+                .all(|(position, entry)| *entry == wanted(number, position))
         })
 }
 
