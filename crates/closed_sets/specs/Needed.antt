@@ -13,6 +13,7 @@ pub record IsNeeded (net : Net) (set : List Bool) (p : ℕ) : Type 0 where
 -- the only input place that the transition has in the set
 pub record IsLoneInput (net : Net) (set : List Bool) (t p : ℕ) : Type 0 where
   pub member : IsTrue (has set p)
+  pub takes : 0 < net.pre p t
   pub only : (q : ℕ) → q < net.places → IsTrue (has set q) → 0 < net.pre q t → q ≡ p
 
 -- each marked place is needed

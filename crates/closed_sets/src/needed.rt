@@ -1,4 +1,4 @@
-ghost use Rattle.std.specs.Prelude.{◌≡◌, ◌<◌, ◌≤◌, ◌↔◌, ℕ, IfSome, IsTrue, MatchBool, Contains, length};
+ghost use Rattle.std.specs.Prelude.{◌≡◌, ◌<◌, ◌≤◌, ◌↔◌, ℕ, IsTrue, MatchBool, MatchOption, Contains, length};
 ghost use Rattle.net_values.specs.FlatNets.{net_of};
 ghost use Rattle.net_values.specs.PlaceSets.{has};
 ghost use Rattle.closed_sets.specs.ClosedSets.{IsMinimalSiphon, IsNonempty, IsSiphon, HasSiphonWithout};
@@ -112,6 +112,7 @@ fn need(net: &FlatNet, set: &PlaceSet, p: usize, needed: &mut PlaceSet, fallen: 
     requires marked { AreNeeded (net_of net.now) set.now needed.old }
     ensures needed { length needed.new ≡ length needed.old }
     ensures marked { AreNeeded (net_of net.now) set.now needed.new }
+    ensures place { IsTrue (has needed.new p) }
 {
     fallen.clear();
     mark(net, set, p, needed, fallen);
@@ -129,7 +130,8 @@ fn need_inputs(net: &FlatNet, set: &PlaceSet, p: usize, needed: &mut PlaceSet, f
     requires marked { AreNeeded (net_of net.now) set.now needed.old }
     requires listed { (q : ℕ) → Contains fallen.old q → IsNeeded (net_of net.now) set.now q }
     requires few { length fallen.old ≤ members needed.old }
-    ensures { NeedsMore (net_of net.now) set.now needed.old needed.new fallen.old fallen.new }
+    ensures more { NeedsMore (net_of net.now) set.now needed.old needed.new fallen.old fallen.new }
+    ensures each { (t q : ℕ) → 0 < (net_of net.now).post p t → IsLoneInput (net_of net.now) set.now t q → IsTrue (has needed.new q) }
 {
     let givers = net.givers(p);
     for t in givers {
@@ -147,7 +149,8 @@ fn mark(net: &FlatNet, set: &PlaceSet, p: usize, needed: &mut PlaceSet, fallen: 
     requires marked { AreNeeded (net_of net.now) set.now needed.old }
     requires listed { (q : ℕ) → Contains fallen.old q → IsNeeded (net_of net.now) set.now q }
     requires few { length fallen.old ≤ members needed.old }
-    ensures { NeedsMore (net_of net.now) set.now needed.old needed.new fallen.old fallen.new }
+    ensures more { NeedsMore (net_of net.now) set.now needed.old needed.new fallen.old fallen.new }
+    ensures place { IsTrue (has needed.new p) }
 {
     if p >= net.places() || needed.contains(p) {
         return;
@@ -160,7 +163,7 @@ fn mark(net: &FlatNet, set: &PlaceSet, p: usize, needed: &mut PlaceSet, fallen: 
 fn lone_input(net: &FlatNet, set: &PlaceSet, t: usize) -> Option<usize>
     requires set { length set.now ≡ (net_of net.now).places }
     requires transition { t < (net_of net.now).transitions }
-    ensures { IfSome result (IsLoneInput (net_of net.now) set.now t) }
+    ensures { MatchOption result ((p : ℕ) → IsLoneInput (net_of net.now) set.now t p → ⊥) (IsLoneInput (net_of net.now) set.now t) }
 {
     let mut lone = None;
     let inputs = net.inputs(t);
