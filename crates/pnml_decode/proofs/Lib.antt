@@ -5,3 +5,6 @@ pub mod LoopLaws
 pub mod Digits
 pub mod SkippedTags
 pub mod ReadTags
+pub mod Arrivals
+pub mod Characters
+pub mod Taken

@@ -12,3 +12,14 @@ pub enum DocFault {
     /// No offset is at fault, and the bytes end, after so many, before the document is whole.
     Truncated(u64),
 }
+
+impl From<net_values::NoMemory> for DocFault {
+    ghost use Rattle.std.specs.Prelude.{◌≡◌};
+    ghost use Rattle.pnml_decode.specs.declared.fault.DocFault.TheVariants as refusals;
+
+    ghost from_gives = { λ _ refusal. refusal ≡ refusals.NoMemory };
+
+    fn from(_refusal: net_values::NoMemory) -> DocFault {
+        DocFault::NoMemory
+    }
+}
