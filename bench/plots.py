@@ -1,14 +1,14 @@
 #!/usr/bin/env python3
 """Measures time against size, beside other programs, and draws it: docs/performance.md and the plots beside it.
 
-    bench/plots.py [--runs N] [--quick] [--out FOLDER] [NAME[@TASK]=PROGRAM ..]
+    bench/plots.py [--runs N] [--quick] [--out FOLDER] [--note TEXT] [NAME[@TASK]=PROGRAM ..]
 
 Each PROGRAM is another program that takes the same task as its word and the document on standard input; with @TASK it is
 taken for that task only. Python's expat, and xmllint, 4ti2 (4ti2-rays or rays) and gringo with clasp where they are
 installed, are taken too. What is missing is left out. A point is the least processor time of N runs (by default 3) of all
 programs in turns; 4ti2 and clasp run once. A program that takes over 20 seconds at a size isn't tried at larger ones. With
 --quick there are only the smallest sizes. The plots are SVG of gnuplot, both axes logarithmic. FOLDER is docs/, unless
-another is given.
+another is given. TEXT is a line of the page that says what the other programs are.
 """
 import argparse
 import datetime
@@ -195,7 +195,7 @@ def page(results, where, words, peers):
         "Made by `bench/plots.py --runs %d%s` in one run. A point is the least processor time, user and system, of these" % (words.runs, others),
         "runs, taken in turns; 4ti2 and clasp ran once, timed in steps of 10 ms, and expat has the start of Python in its time.",
         "Where a line ends early the program took over %d seconds at the next size or failed there. Nothing is promised of" % PATIENCE,
-        "times. `-` is a size that wasn't reached.",
+        "times. `-` is a size that wasn't reached. " + words.note,
     ]
     for task, panels in results.items():
         lines += ["", "## %s: `%s`" % (TITLES[task], task), "", "![%s](performance/%s.svg)" % (TITLES[task], task), ""] + table(task, panels)
@@ -215,6 +215,7 @@ def main():
     parser.add_argument("--runs", type=int, default=3)
     parser.add_argument("--quick", action="store_true")
     parser.add_argument("--out", default=os.path.join(ROOT, "docs"))
+    parser.add_argument("--note", default="")
     parser.add_argument("peers", nargs="*")
     words = parser.parse_args()
     if not shutil.which("gnuplot"):
