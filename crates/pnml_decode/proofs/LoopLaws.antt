@@ -1,6 +1,6 @@
--- The loop keeps what was read up to its offset. Where it stops the first fault is named: what was read
--- makes the offset at which it stops the first that is faulty.
-use Rattle.std.proofs.Common.{◌≡◌, ℕ, ◌<◌, ◌≤◌, List, Some, None, sym, ap, subst, ◌∙◌, arith, length}
+-- What was read goes on by a token that is taken. Where the reading stops the first fault is named: what was read makes the
+-- offset at which it stops the first that is faulty.
+use Rattle.std.proofs.Common.{◌≡◌, ℕ, ◌<◌, ◌≤◌, List, None, sym, subst, length}
 use Rattle.std.specs.Prelude.{IsUtf8}
 use Rattle.pnml_grammar.specs.declared.token.Token.{Token}
 use Rattle.pnml_grammar.specs.declared.token.Token.TheVariants as tokens
@@ -9,20 +9,15 @@ use Rattle.pnml_grammar.specs.FirstFault.{HasNoToken}
 use Rattle.pnml_grammar.specs.OpenElements.{State}
 use Rattle.pnml_grammar.specs.Machine.{start, reason_of, next}
 use Rattle.pnml_grammar.specs.ReadTo.{IsReadTo}
-use Rattle.pnml_grammar.proofs.RunLaws.{some_is}
-use Rattle.pnml_grammar.proofs.OffsetLaws.{token_goes_on, token_end_inside}
-use Rattle.pnml_grammar.proofs.TokenLaws.{one_token_occurs}
-use Rattle.pnml_grammar.proofs.ReadToLaws.{nothing_is_read, declaration_is_read, token_is_read}
+use Rattle.pnml_grammar.proofs.OffsetLaws.{token_end_inside}
+use Rattle.pnml_grammar.proofs.ReadToLaws.{nothing_is_read, token_is_read}
 use Rattle.pnml_grammar.proofs.FaultLaws.{missing_token_is_faulty, refused_token_is_faulty}
-use Rattle.pnml_token.specs.declared.token.Step.{Step}
-use Rattle.pnml_token.specs.declared.token.Step.TheVariants as steps
-use Rattle.pnml_token.specs.Steps.{IfToken, IfEnd}
 use Rattle.pnml_decode.specs.declared.fault.DocFault.{DocFault}
 use Rattle.pnml_decode.specs.declared.fault.DocFault.TheVariants as refusals
 use Rattle.pnml_decode.specs.declared.reader_fault.ReaderFault.{ReaderFault}
 use Rattle.pnml_decode.specs.declared.reader_fault.ReaderFault.TheVariants as faults
 use Rattle.pnml_decode.specs.Taking.{reason_named}
-use Rattle.pnml_decode.specs.Faults.{NamesFirstFault, IsMissing, declaration_end, refusal_at}
+use Rattle.pnml_decode.specs.Faults.{NamesFirstFault, IsMissing, refusal_at}
 
 -- ---- where no token occurs
 
@@ -46,34 +41,7 @@ missing_in_front (refusals.At offset reason) bytes k text first missing =
     missing_is_first (refusals.At offset reason) bytes k start text (nothing_before bytes k first (λ e at. missing.1.nothing_there tokens.Declaration e at)) missing
 missing_in_front _ bytes k text first missing = absurd missing
 
--- ---- the declaration in front
-
-abbrev IsStep : List ℕ → ℕ → Step → Type 0
-IsStep bytes k step = IfToken step (λ token e. TokenAt bytes k token e) × IfEnd step (k ≡ length bytes)
-
-no_declaration : (bytes : List ℕ) (k : ℕ) (step : Step) → IsStep bytes k step → declaration_end step ≡ None → (e : ℕ) → TokenAt bytes k tokens.Declaration e → ⊥
-no_declaration bytes k (steps.Token token f) is none e at = other token (one_token_occurs bytes k token tokens.Declaration f e is.0 at).0 none
-  where
-    other : (token : Token) → token ≡ tokens.Declaration → declaration_end (steps.Token token f) ≡ None → ⊥
-    other token same none = let e = sym none ∙ ap (λ (t : Token). declaration_end (steps.Token t f)) same in absurd cc
-no_declaration bytes k steps.End is none e at =
-    absurd (omega (arith, is.1, token_goes_on bytes k tokens.Declaration e at, token_end_inside bytes k tokens.Declaration e at))
-
-pub nothing_in_front : (bytes : List ℕ) (k : ℕ) (step : Step) → k ≡ first_offset bytes → IfToken step (λ token e. TokenAt bytes k token e) → IfEnd step (k ≡ length bytes)
-    → declaration_end step ≡ None → IsReadTo bytes k start
-nothing_in_front bytes k step first token end none = nothing_before bytes k first (no_declaration bytes k step (token, end) none)
-
-is_declaration : (bytes : List ℕ) (k : ℕ) (step : Step) (e : ℕ) → IfToken step (λ token e. TokenAt bytes k token e) → declaration_end step ≡ Some e → TokenAt bytes k tokens.Declaration e
-is_declaration bytes k (steps.Token tokens.Declaration f) e at some = subst (λ (p : ℕ). TokenAt bytes k tokens.Declaration p) (some_is f e some) at
-is_declaration bytes k _ e at some = absurd cc
-
-pub declaration_in_front : (bytes : List ℕ) (k : ℕ) (step : Step) (e : ℕ) → k ≡ first_offset bytes → IfToken step (λ token e. TokenAt bytes k token e)
-    → declaration_end step ≡ Some e → IsReadTo bytes e start × (e ≤ length bytes)
-declaration_in_front bytes k step e first token some =
-    let at = is_declaration bytes k step e token some in
-    (declaration_is_read bytes e (subst (λ (p : ℕ). TokenAt bytes p tokens.Declaration e) first at), token_end_inside bytes k tokens.Declaration e at)
-
--- ---- the loop
+-- ---- where one occurs
 
 -- a token that is taken goes on with what was read
 pub token_goes_on_read : (bytes : List ℕ) (k : ℕ) (state after : State) (token : Token) (e : ℕ) → IsReadTo bytes k state → TokenAt bytes k token e
@@ -86,9 +54,3 @@ pub refusal_is_first : (fault : ReaderFault) (bytes : List ℕ) (k : ℕ) (state
     → reason_named fault ≡ reason_of state token → NamesFirstFault (refusal_at k fault) bytes
 refusal_is_first faults.NoMemory bytes k state token e text read at named = tt
 refusal_is_first (faults.Because reason) bytes k state token e text read at named = (text, refused_token_is_faulty bytes k state token e reason read at (sym named))
-
-pub token_at_step : (bytes : List ℕ) (k : ℕ) (step : Step) (token : Token) (e : ℕ) → step ≡ steps.Token token e → IfToken step (λ token e. TokenAt bytes k token e) → TokenAt bytes k token e
-token_at_step bytes k step token e is at = subst (λ (s : Step). IfToken s (λ token e. TokenAt bytes k token e)) is at
-
-pub end_at_step : (bytes : List ℕ) (k : ℕ) (step : Step) → step ≡ steps.End → IfEnd step (k ≡ length bytes) → k ≡ length bytes
-end_at_step bytes k step is at = subst (λ (s : Step). IfEnd s (k ≡ length bytes)) is at

@@ -1,9 +1,6 @@
 -- What a refusal says of the bytes.
 use Rattle.std.specs.Prelude.{◌≡◌, ℕ, List, Option, Some, None, IfSome}
-use Rattle.pnml_grammar.specs.declared.token.Token.TheVariants as tokens
 use Rattle.pnml_grammar.specs.FirstFault.{Fault, not_utf8, at, truncated, FirstFault, HasNoToken}
-use Rattle.pnml_token.specs.declared.token.Step.{Step}
-use Rattle.pnml_token.specs.declared.token.Step.TheVariants as steps
 use Rattle.pnml_decode.specs.declared.reader_fault.ReaderFault.{ReaderFault}
 use Rattle.pnml_decode.specs.declared.reader_fault.ReaderFault.TheVariants as faults
 use Rattle.pnml_decode.specs.declared.fault.DocFault.{DocFault}
@@ -30,11 +27,6 @@ abbrev pub IsMissing : DocFault → List ℕ → ℕ → Type 0
 IsMissing refusals.NoMemory bytes k = Unit
 IsMissing (refusals.At offset reason) bytes k = (offset ≡ k) × HasNoToken bytes k reason
 IsMissing _ bytes k = ⊥
-
--- the end of the declaration, where the step is one
-abbrev pub declaration_end : Step → Option ℕ
-declaration_end (steps.Token tokens.Declaration e) = Some e
-declaration_end _ = None
 
 -- what is answered where the reader doesn't take the token at the offset
 abbrev pub refusal_at : ℕ → ReaderFault → DocFault
