@@ -2,6 +2,7 @@
 mod faulty;
 mod limits;
 mod nets;
+mod pieces;
 mod whole;
 
 use crate::{DocFault, Reason, decode};
