@@ -20,16 +20,16 @@ export NET="${NET:-1}"
 
 # Goes on with the classes of one file: a file for each class that is left, and one for the siphons that were found.
 one_run() {
-    cat "$FOLDER/document" "$1" | "$PROGRAM" resume --net "$NET" --sets "$LEAVES" > "$1.out" || exit 255
+    made=$FOLDER/made/${1##*/}
+    cat "$FOLDER/document" "$1" | "$PROGRAM" resume --net "$NET" --sets "$LEAVES" > "$made" || exit 255
     list=$(mktemp "$FOLDER/found/XXXXXXXX") # its name is that of no other run
-    awk -v next_file="$FOLDER/next/$(basename "$list")" '
+    awk -v next_file="$FOLDER/next/${list##*/}" '
         NR == 1 { next }
         ended { if (ended++ > 1) print held; held = $0; next }
         $0 == "end" { ended = 1; next }
         $0 == "pending" { next }
         { file = next_file "." ++n; printf "pending\n%s\nend\n", $0 > file; close(file) }
-    ' "$1.out" > "$list"
-    rm "$1" "$1.out"
+    ' "$made" > "$list"
 }
 
 if [ "${1:-}" = --one ]; then
@@ -55,15 +55,15 @@ export LEAVES="${2:-1000}"
 FOLDER=$(mktemp -d)
 export FOLDER
 trap 'rm -rf "$FOLDER"' EXIT
-mkdir "$FOLDER/now" "$FOLDER/next" "$FOLDER/found"
+mkdir "$FOLDER/now" "$FOLDER/made" "$FOLDER/next" "$FOLDER/found"
 "$PROGRAM" canon > "$FOLDER/document"
 : > "$FOLDER/now/0"
 
 while [ -n "$(ls "$FOLDER/now")" ]; do
     find "$FOLDER/now" -type f | all_runs
-    rmdir "$FOLDER/now"
+    rm -r "$FOLDER/now" "$FOLDER/made"
     mv "$FOLDER/next" "$FOLDER/now"
-    mkdir "$FOLDER/next"
+    mkdir "$FOLDER/made" "$FOLDER/next"
 done
 
 find "$FOLDER/found" -type f -exec cat {} + | LC_ALL=C sort | awk '{ print } END { print "siphons " NR }'
