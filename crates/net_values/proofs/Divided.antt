@@ -1,11 +1,11 @@
 -- A vector divided by a number that no positive entry is below: the positive entries stay positive.
-use Rattle.std.proofs.Common.{◌≡◌, refl, sym, ap, ◌∙◌, ℕ, ◌/◌, ◌<◌, ◌≤◌, nat_lt, List, [], ◌∷◌, Bool, length, map, get_or, slice_index, inl, inr, arith}
+use Rattle.std.proofs.Common.{◌≡◌, refl, sym, ap, ◌∙◌, ℕ, ◌/◌, ◌<◌, ◌≤◌, nat_lt, suc, zero, List, [], ◌∷◌, Bool, length, map, get_or, slice_index, inl, inr, arith}
 use Rattle.std.proofs.Math.Nat.{div-le_self}
 use Rattle.std.proofs.lemmas.Nat.{le-div}
 use Rattle.std.proofs.lemmas.Bool.{cases_lt, lt-ltb, le-ltb}
-use Rattle.std.proofs.lemmas.List.{same_lists, get_or-map, length-map}
-use Rattle.net_values.specs.Vectors.{IsKept, support_of}
-use Rattle.net_values.proofs.Supports.{support_size}
+use Rattle.std.proofs.lemmas.List.{get_or-map, length-map}
+use Rattle.net_values.specs.Vectors.{IsVector, IsKept, packed, support_of}
+use Rattle.net_values.proofs.Packed.{packed_more}
 
 pub divided_by_one : (entries : List ℕ) (divisor : ℕ) → divisor ≡ 1 → entries ≡ map (λ entry. entry / divisor) entries
 divided_by_one [] divisor one = refl
@@ -23,25 +23,41 @@ still n d some least =
           le-ltb 0 (n / d) (omega arith) ∙ sym (le-ltb 0 n none)
     ]
 
-pub divided_kept : (entries : List ℕ) (support : List Bool) (divisor : ℕ) → 0 < divisor → ((i : ℕ) → 0 < slice_index entries i → divisor ≤ slice_index entries i) → IsKept entries support → IsKept (map (λ entry. entry / divisor) entries) support
-divided_kept entries support divisor some least h =
+pub divided_vector : (entries : List ℕ) (divisor : ℕ) → IsVector entries → IsVector (map (λ entry. entry / divisor) entries)
+divided_vector entries divisor h =
     let f : ℕ → ℕ = λ entry. entry / divisor in
     let size = length-map entries f in
-    let short = h.vector.short in
+    let short = h.short in
     record {
-      vector = record {
-        short = omega arith;
-        narrow = λ k d under.
-            let within : k < length entries = omega arith in
-            let is : get_or (map f entries) k d ≡ get_or entries k 0 / divisor = get_or-map f entries k 0 d within in
-            let part = div-le_self (get_or entries k 0) divisor in
-            let narrow = h.vector.narrow k 0 within in
-            omega arith;
-      };
-      positions = h.positions ∙ same_lists (support_of entries) (support_of (map f entries)) (support_size entries ∙ sym (support_size (map f entries) ∙ size)) (λ k d under.
-          let within : k < length entries = omega (arith, support_size entries) in
-          get_or-map (λ entry. nat_lt 0 entry) entries k 0 d within
-          ∙ sym (still (get_or entries k 0) divisor some (least k))
-          ∙ ap (λ (x : ℕ). nat_lt 0 x) (sym (get_or-map f entries k 0 0 within))
-          ∙ sym (get_or-map (λ entry. nat_lt 0 entry) (map f entries) k 0 d (omega arith)));
+      short = omega arith;
+      narrow = λ k d under.
+          let within : k < length entries = omega arith in
+          let is : get_or (map f entries) k d ≡ get_or entries k 0 / divisor = get_or-map f entries k 0 d within in
+          let part = div-le_self (get_or entries k 0) divisor in
+          let narrow = h.narrow k 0 within in
+          omega arith;
     }
+
+module _ (divisor : ℕ) (some : 0 < divisor) where
+  divided_support : (entries : List ℕ) → ((i : ℕ) → 0 < slice_index entries i → divisor ≤ slice_index entries i) → support_of entries ≡ support_of (map (λ entry. entry / divisor) entries)
+  divided_support [] least = refl
+  divided_support (e ∷ entries) least =
+      ap (λ (b : Bool). b ∷ support_of entries) (sym (still e divisor some (least 0)))
+      ∙ ap (λ (s : List Bool). nat_lt 0 (e / divisor) ∷ s) (divided_support entries (λ i. least (suc i)))
+
+  divided_numbers : (entries : List ℕ) → ((i : ℕ) → 0 < slice_index entries i → divisor ≤ slice_index entries i) → map (λ entry. entry / divisor) (packed entries) ≡ packed (map (λ entry. entry / divisor) entries)
+  divided_numbers [] least = refl
+  divided_numbers (zero ∷ entries) least =
+      let none : 0 / divisor ≡ 0 = let part = div-le_self 0 divisor in omega arith in
+      divided_numbers entries (λ i. least (suc i)) ∙ ap (λ (x : ℕ). packed (x ∷ map (λ entry. entry / divisor) entries)) (sym none)
+  divided_numbers (suc n ∷ entries) least =
+      let one : 1 ≤ suc n / divisor = le-div 1 (suc n) divisor some (let enough = least 0 (omega arith) in omega arith) in
+      ap (λ (xs : List ℕ). suc n / divisor ∷ xs) (divided_numbers entries (λ i. least (suc i)))
+      ∙ sym (packed_more (suc n / divisor) (map (λ entry. entry / divisor) entries) (omega arith))
+
+  pub divided_kept : (entries : List ℕ) (support : List Bool) (numbers : List ℕ) → ((i : ℕ) → 0 < slice_index entries i → divisor ≤ slice_index entries i) → IsKept entries support numbers → IsKept (map (λ entry. entry / divisor) entries) support (map (λ entry. entry / divisor) numbers)
+  divided_kept entries support numbers least k = record {
+    vector = divided_vector entries divisor k.vector;
+    positions = k.positions ∙ divided_support entries least;
+    listed = ap (map (λ entry. entry / divisor)) k.listed ∙ divided_numbers entries least;
+  }

@@ -13,6 +13,10 @@ pub mod PlaceUnions
 pub mod PlaceWords
 pub mod PlaceFlips
 pub mod PlaceOrder
+pub mod PlaceCounts
 pub mod Supports
 pub mod Walks
+pub mod Packed
+pub mod PackedPlaces
+pub mod VectorOrder
 pub mod Divided

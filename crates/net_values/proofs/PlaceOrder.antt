@@ -85,16 +85,16 @@ less_at (true ∷ xs) (false ∷ ys) (suc p) none member before = absurd (true�
 less_at (true ∷ xs) (true ∷ ys) (suc p) none member before = less_at xs ys p none member (λ q under. before (suc q) (omega arith))
 less_at (false ∷ xs) (false ∷ ys) (suc p) none member before = less_at xs ys p none member (λ q under. before (suc q) (omega arith))
 
-less_is : (n m : ℕ) → n < m → nat_cmp n m ≡ Less
+pub less_is : (n m : ℕ) → n < m → nat_cmp n m ≡ Less
 less_is n m less = cond-true _ _ _ (lt-ltb n m less)
 
-equal_is : (n m : ℕ) → n ≡ m → nat_cmp n m ≡ Equal
+pub equal_is : (n m : ℕ) → n ≡ m → nat_cmp n m ≡ Equal
 equal_is n m same = cond-false _ _ _ (le-ltb n m (omega arith)) ∙ cond-true _ _ _ (eq-eqb n m same)
 
-greater_is : (n m : ℕ) → m < n → nat_cmp n m ≡ Greater
+pub greater_is : (n m : ℕ) → m < n → nat_cmp n m ≡ Greater
 greater_is n m more = cond-false _ _ _ (le-ltb n m (omega arith)) ∙ cond-false _ _ _ (ne_eqb n m (λ same. omega arith))
 
-cmp_suc : (n m : ℕ) → nat_cmp n m ≡ nat_cmp (suc n) (suc m)
+pub cmp_suc : (n m : ℕ) → nat_cmp n m ≡ nat_cmp (suc n) (suc m)
 cmp_suc n m =
     elim (cases_order n m) [
       | inl same ↦ equal_is n m same ∙ sym (equal_is (suc n) (suc m) (omega arith))

@@ -3,15 +3,15 @@
 use Rattle.std.proofs.Common.{◌≡◌, refl, sym, ap, ◌∙◌, subst, ℕ, zero, suc, ◌+◌, ◌^◌, ◌<◌, ◌≤◌, nat_lt, List, [], ◌∷◌, Bool, true, false, Option, None, Some, MatchOption, IfSome, length, slice_index, arith}
 use Rattle.std.proofs.lemmas.Bool.{lt-ltb, le-ltb, true≢false}
 use Rattle.net_values.specs.PlaceSets.{HasNoneFrom, IsFirstFrom}
-use Rattle.net_values.specs.Vectors.{AreZerosFrom, IsFirstPositive, IsKept, IsPositive, WalkValue, support_of, positives_below, positive_count}
+use Rattle.net_values.specs.Vectors.{AreZerosFrom, IsFirstPositive, IsPositive, WalkValue, support_of, positives_below, positive_count}
 use Rattle.net_values.proofs.Supports.{support_has, support_size}
 
 -- a position that isn't in the set has no positive entry
-zero_where : (n : ℕ) → nat_lt 0 n ≡ false → n ≡ 0
+pub zero_where : (n : ℕ) → nat_lt 0 n ≡ false → n ≡ 0
 zero_where zero none = refl
 zero_where (suc n) none = absurd (true≢false (sym (lt-ltb 0 (suc n) (omega arith)) ∙ none))
 
-positive_where : (n : ℕ) → nat_lt 0 n ≡ true → 0 < n
+pub positive_where : (n : ℕ) → nat_lt 0 n ≡ true → 0 < n
 positive_where zero some = absurd (true≢false (sym some ∙ le-ltb 0 0 (omega arith)))
 positive_where (suc n) some = omega arith
 
@@ -35,12 +35,6 @@ pub start : (entries : List ℕ) → positives_below entries 0 ≡ 0
 start [] = refl
 start (e ∷ entries) = refl
 
-pub walk_finds : (walk : WalkValue) (numbers : List ℕ) (support : List Bool) (next p : ℕ) → record { entries = numbers; from = next } ≡ walk → IsKept numbers support → IsFirstFrom support next p → IsFirstPositive walk.entries walk.from p (slice_index numbers p)
-walk_finds walk numbers support next p is kept first =
-    let set = subst (λ (s : List Bool). IsFirstFrom s next p) kept.positions first in
-    let under : p < length numbers = let below = set.below_size in omega (arith, support_size numbers) in
-    subst (λ (w : WalkValue). IsFirstPositive w.entries w.from p (slice_index numbers p)) is (first_positive numbers next p (slice_index numbers p) set refl (kept.vector.narrow p 0 under))
-
 -- zeros count for nothing
 pub none_between : (entries : List ℕ) (from to : ℕ) → from ≤ to → ((q : ℕ) → from ≤ q → q < to → slice_index entries q ≡ 0) → positives_below entries to ≡ positives_below entries from
 none_between [] from to order zeros = refl
@@ -55,7 +49,7 @@ none_between (e ∷ entries) (suc from) (suc to) order zeros =
     let rest = none_between entries from to (omega arith) (λ q late under. zeros (suc q) (omega arith) (omega arith)) in
     omega arith
 
-one_more : (entries : List ℕ) (p : ℕ) → 0 < slice_index entries p → positives_below entries (suc p) ≡ positives_below entries p + 1
+pub one_more : (entries : List ℕ) (p : ℕ) → 0 < slice_index entries p → positives_below entries (suc p) ≡ positives_below entries p + 1
 one_more [] p some = absurd (omega arith)
 one_more (e ∷ entries) zero some = let none = start entries in omega arith
 one_more (e ∷ entries) (suc p) some = let rest = one_more entries p some in omega arith

@@ -1,5 +1,5 @@
 -- Sets of places, as the lists of truth values that tell for each place whether it is in.
-use Rattle.std.specs.Prelude.{◌≡◌, ◌⊎◌, ◌<◌, ◌≤◌, ℕ, List, Bool, false, IsTrue, map, not, length, slice_index_or}
+use Rattle.std.specs.Prelude.{◌≡◌, ◌⊎◌, ◌<◌, ◌≤◌, ℕ, zero, suc, ◌+◌, List, [], ◌∷◌, Bool, true, false, IsTrue, map, not, length, slice_index_or}
 
 -- the place is in the set; a place past its size isn't
 abbrev pub has : List Bool → ℕ → Bool
@@ -31,3 +31,10 @@ pub record IsFirstFrom (set : List Bool) (from p : ℕ) : Type 0 where
   pub not_before : from ≤ p
   pub member : IsTrue (has set p)
   pub first : (q : ℕ) → from ≤ q → q < p → has set q ≡ false
+
+-- how many places below this one are in the set
+abbrev pub members_below : List Bool → ℕ → ℕ
+members_below [] p = 0
+members_below (b ∷ set) zero = 0
+members_below (true ∷ set) (suc p) = 1 + members_below set p
+members_below (false ∷ set) (suc p) = members_below set p

@@ -1,5 +1,5 @@
 -- Sets of places in words of 64 bits: place p is bit p % 64 of word p / 64.
-use Rattle.std.specs.Prelude.{◌≡◌, ℕ, ◌+◌, ◌/◌, ◌%◌, ◌^◌, ◌<◌, ◌≤◌, ◌==◌, List, Bool, true, false, not, length, map, slice_index}
+use Rattle.std.specs.Prelude.{◌≡◌, ℕ, zero, suc, ◌+◌, ◌/◌, ◌%◌, ◌^◌, ◌<◌, ◌≤◌, ◌==◌, List, Bool, true, false, not, length, map, slice_index}
 use Rattle.std.specs.Int.{bit_at}
 use Rattle.std.specs.List.{range_with_len}
 use Rattle.net_values.specs.declared.limits.TheConstants.{MAX_ENTRIES}
@@ -47,3 +47,17 @@ pub record IsFirstPlaceFrom (words : List ℕ) (from p : ℕ) : Type 0 where
   pub not_before : from ≤ p
   pub member : word_has words p ≡ true
   pub first : (q : ℕ) → from ≤ q → q < p → word_has words q ≡ false
+
+-- 1 for what passes a test, and 0 for what doesn't
+abbrev pub one_if : Bool → ℕ
+one_if true = 1
+one_if false = 0
+
+-- how many numbers below this one pass a test
+abbrev pub count_under : (ℕ → Bool) → ℕ → ℕ
+count_under test zero = 0
+count_under test (suc n) = count_under test n + one_if (test n)
+
+-- whether a word has the bit of this number
+abbrev pub has_bit_at : ℕ → ℕ → Bool
+has_bit_at word i = bit_at word i == 1

@@ -1,5 +1,8 @@
 -- Vectors of natural numbers, as the lists of their entries.
-use Rattle.std.specs.Prelude.{◌≡◌, ℕ, zero, suc, ◌+◌, ◌<◌, ◌≤◌, ◌^◌, min, ℤ, pos, negsuc, nat_lt, Bool, List, [], ◌∷◌, length, map, slice_index, All}
+use Rattle.std.specs.Prelude.{◌≡◌, ℕ, zero, suc, ◌+◌, ◌<◌, ◌≤◌, ◌^◌, min, ℤ, pos, negsuc, nat_lt, Bool, true, false, List, [], ◌∷◌, length, map, slice_index, All, Option, None, Some}
+use Rattle.std.specs.Ordering.{nat_cmp, ordering_then}
+use Rattle.std.specs.declared.cmp.Ordering.{Ordering}
+use Rattle.std.specs.declared.cmp.Ordering.TheVariants.{Greater}
 use Rattle.net_values.specs.declared.limits.TheConstants.{MAX_ENTRIES}
 
 -- a whole number where it is positive, else 0
@@ -16,10 +19,29 @@ pub record IsVector (entries : List ℕ) : Type 0 where
 abbrev pub support_of : List ℕ → List Bool
 support_of entries = map (λ entry. nat_lt 0 entry) entries
 
--- a vector as it is kept: its entries, with the set of the positions of the positive ones
-pub record IsKept (entries : List ℕ) (support : List Bool) : Type 0 where
+-- the positive entries alone, in order of position
+abbrev pub packed : List ℕ → List ℕ
+packed [] = []
+packed (zero ∷ entries) = packed entries
+packed (suc n ∷ entries) = suc n ∷ packed entries
+
+-- all entries, from the set of the positions of the positive ones and these in order: 0 where the set has no place
+abbrev pub unpacked : List Bool → List ℕ → List ℕ
+unpacked [] numbers = []
+unpacked (false ∷ support) numbers = 0 ∷ unpacked support numbers
+unpacked (true ∷ support) [] = 0 ∷ unpacked support []
+unpacked (true ∷ support) (number ∷ numbers) = number ∷ unpacked support numbers
+
+-- these are the entries of a vector that is kept as its positive entries in order and the set of their positions
+pub record IsKept (entries : List ℕ) (support : List Bool) (numbers : List ℕ) : Type 0 where
   pub vector : IsVector entries
   pub positions : support ≡ support_of entries
+  pub listed : numbers ≡ packed entries
+
+-- a vector as it is kept, with room for a positive entry at each position
+pub record IsPacked (support : List Bool) (numbers : List ℕ) (room : ℕ) : Type 0 where
+  pub kept : IsKept (unpacked support numbers) support numbers
+  pub enough : length support ≤ room
 
 -- how many of the entries below a position are positive
 abbrev pub positives_below : List ℕ → ℕ → ℕ
@@ -53,7 +75,18 @@ pub record IsFirstPositive (entries : List ℕ) (from p entry : ℕ) : Type 0 wh
   pub positive : 0 < entry
   pub narrow : entry < 2 ^ 127
 
+-- a walk over a vector that is kept so has come to this position, and to the number of this index
+pub record IsWalked (support : List Bool) (numbers : List ℕ) (from index : ℕ) : Type 0 where
+  pub kept : IsKept (unpacked support numbers) support numbers
+  pub passed : index ≡ positives_below (unpacked support numbers) from
+
 -- a walk over the positive entries: all entries, and the position from which on the next one is looked for
 pub record WalkValue : Type 0 where
   pub entries : List ℕ
   pub from : ℕ
+
+-- the order of two vectors that are equal before the next positive entry of the first and that of the second, if any,
+-- by these: the vector whose one comes earlier is the greater one
+abbrev pub next_cmp : ℕ × ℕ → Option (ℕ × ℕ) → Ordering
+next_cmp next None = Greater
+next_cmp next (Some other) = ordering_then (nat_cmp other.0 next.0) (nat_cmp next.1 other.1)

@@ -5,14 +5,14 @@ ghost use Rattle.std.specs.Cmp.{partial_order_from_own_ties};
 ghost use Rattle.std.specs.Cmp.Lexicographic.{slice_cmp};
 ghost use Rattle.std.specs.Cmp.Rules.{comparing};
 ghost use Rattle.std.specs.Ordering.{is_eq, as_partial_cmp, bool_cmp};
-ghost use Rattle.net_values.specs.PlaceSets.{complement, has, HasNoneFrom, IsEmpty, IsFirstFrom, IsSubset, IsWithinEither};
+ghost use Rattle.net_values.specs.PlaceSets.{complement, has, HasNoneFrom, IsEmpty, IsFirstFrom, IsSubset, IsWithinEither, members_below};
 
 use crate::alike::{AlikeList, Listed};
 use crate::limits::MAX_ENTRIES;
 use crate::no_memory::NoMemory;
 use crate::place_words::{
-    are_within, are_within_either, are_zero, first_difference, first_place_from, flipped_words,
-    has_bit, unite_words, with_bit, without_bit,
+    are_within, are_within_either, are_zero, count_places_below, first_difference,
+    first_place_from, flipped_words, has_bit, unite_words, with_bit, without_bit,
 };
 use std::alloc::Global;
 use std::cmp::Ordering;
@@ -105,6 +105,21 @@ impl PlaceSet {
         ensures { MatchOption result (HasNoneFrom self.now from) (λ p. IsFirstFrom self.now from p) }
     {
         first_place_from(self.words.as_slice(), from)
+    }
+
+    /// The number of places of the set below place `p`.
+    pub(crate) fn count_below(&self, p: usize) -> usize
+        requires { p < length self.now }
+        ensures { result ≡ members_below self.now p }
+    {
+        count_places_below(self.words.as_slice(), p)
+    }
+
+    /// Takes each place out of the set.
+    pub(crate) fn clear(&mut self)
+        ensures { self.new ≡ replicate (length self.old) false }
+    {
+        self.words.as_mut_slice().fill(0);
     }
 
     /// Puts place `p` into the set.

@@ -1,10 +1,10 @@
 //! Words of 64 bits as sets of places: place `p` is bit `p % 64` of word `p / 64`. Only place sets know of
 //! words.
 
-ghost use Rattle.std.specs.Prelude.{◌≡◌, ◌≢◌, ℕ, ◌+◌, ◌*◌, ◌<◌, ◌≤◌, ◌↔◌, ◌==◌, IsTrue, IfOk, MatchOption, length, slice_index};
+ghost use Rattle.std.specs.Prelude.{◌≡◌, ◌≢◌, ℕ, ◌+◌, ◌*◌, ◌/◌, ◌<◌, ◌≤◌, ◌↔◌, ◌==◌, IsTrue, IfOk, MatchOption, length, slice_index};
 ghost use Rattle.std.specs.Int.{bit_at, bit_not, w64};
 ghost use Rattle.std.specs.Int.RustNames.{bit_and, bit_or};
-ghost use Rattle.net_values.specs.PlaceWords.{AreFlipped, HasNoPlaceFrom, IsFirstDifference, IsFirstPlaceFrom, IsLowestBit};
+ghost use Rattle.net_values.specs.PlaceWords.{AreFlipped, HasNoPlaceFrom, IsFirstDifference, IsFirstPlaceFrom, IsLowestBit, count_under, has_bit_at, word_has};
 
 use crate::no_memory::NoMemory;
 use std::alloc::Global;
@@ -148,6 +148,46 @@ fn without_low_bits(word: u64, count: usize) -> u64
     ensures outside { (i : ℕ) → count ≤ i → i < 64 → bit_at result i ≡ bit_at word i }
 {
     word & !low_bits(count)
+}
+
+/// The word with its lowest `count` bits kept and no others.
+fn with_low_bits(word: u64, count: usize) -> u64
+    ensures inside { (i : ℕ) → i < count → i < 64 → bit_at result i ≡ bit_at word i }
+    ensures outside { (i : ℕ) → count ≤ i → i < 64 → bit_at result i ≡ 0 }
+{
+    word & low_bits(count)
+}
+
+/// The number of bits that are set in the word.
+fn count_bits(word: u64) -> usize
+    ensures value { result ≡ count_under (has_bit_at word) 64 }
+    ensures bound { result ≤ 64 }
+{
+    word.count_ones() as usize
+}
+
+/// The number of places below a multiple of 64 that are in.
+fn count_in_whole_words(words: &[u64], whole: usize) -> usize
+    requires within { whole ≤ length words.now }
+    requires size { length words.now ≤ 64 }
+    ensures value { result ≡ count_under (word_has words.now) (whole * 64) }
+    ensures bound { result ≤ whole * 64 }
+{
+    let mut count = 0;
+    for k in 0..whole {
+        count += count_bits(words[k]);
+    }
+    count
+}
+
+/// The number of places below `p` that are in.
+pub(crate) fn count_places_below(words: &[u64], p: usize) -> usize
+    requires within { p / 64 < length words.now }
+    requires size { length words.now ≤ 64 }
+    ensures { result ≡ count_under (word_has words.now) p }
+{
+    let last = with_low_bits(words[p / 64], p % 64);
+    count_in_whole_words(words, p / 64) + count_bits(last)
 }
 
 /// The lowest place that is in and isn't below `from`.

@@ -5,7 +5,7 @@ ghost use Rattle.std.specs.Cmp.{partial_order_from_own_ties};
 ghost use Rattle.std.specs.Cmp.Lexicographic.{slice_cmp};
 ghost use Rattle.std.specs.Cmp.Rules.{comparing};
 ghost use Rattle.std.specs.Ordering.{is_eq, as_partial_cmp, nat_cmp};
-ghost use Rattle.net_values.specs.Vectors.{AreZerosFrom, IsPositive, IsVector, positive_count, positive_part, support_of};
+ghost use Rattle.net_values.specs.Vectors.{AreZerosFrom, IsPositive, IsVector, next_cmp, positive_count, positive_part, support_of};
 
 use crate::alike::{AlikeList, Listed};
 use crate::limits::MAX_ENTRIES;
@@ -17,22 +17,22 @@ use std::cmp::Ordering;
 use std::marker::Model;
 
 /// A list of at most `MAX_ENTRIES` entries, none negative. Contracts see it as the list of natural numbers. It
-/// keeps the set of the positions of its positive entries.
+/// keeps its positive entries alone, in order, and the set of their positions, with room for an entry at each.
 #[derive(Drop)]
 pub struct Vector {
-    entries: Vec<u128>,
+    numbers: Vec<u128>,
     support: PlaceSet,
 }
 
 impl Model for Vector {
-    ghost use Rattle.std.specs.Prelude.{List, ℕ};
-    ghost use Rattle.net_values.specs.Vectors.{IsKept};
+    ghost use Rattle.std.specs.Prelude.{List, ℕ, vec_capacity};
+    ghost use Rattle.net_values.specs.Vectors.{IsPacked, unpacked};
 
     ghost Value = { List ℕ };
 
-    ghost view = { λ v. v.entries.items };
+    ghost view = { λ v. unpacked v.support v.numbers.items };
 
-    ghost invariant = { λ v. IsKept v.entries.items v.support };
+    ghost invariant = { λ v. IsPacked v.support v.numbers.items (vec_capacity v.numbers) };
 }
 
 impl Vector {
@@ -42,35 +42,19 @@ impl Vector {
         ensures { IfOk result (λ vector. vector ≡ replicate length 0) }
     {
         Ok(Vector {
-            entries: vec![in alloc; 0u128; length]?,
+            numbers: Vec::with_capacity(alloc, length)?,
             support: PlaceSet::new(alloc, length)?,
         })
-    }
-
-    /// The vector with these entries, each at most 2^127 - 1.
-    pub fn from_entries(alloc: Global, entries: Vec<u128>) -> Result<Vector, NoMemory>
-        requires { IsVector entries.items }
-        ensures { IfOk result (λ vector. vector ≡ entries.items) }
-    {
-        let support = positive_positions(alloc, entries.as_slice())?;
-        Ok(Vector { entries, support })
-    }
-
-    /// The vector with these entries, each at most 2^127 - 1, and the set of the positions of the positive ones.
-    pub fn with_support(entries: Vec<u128>, support: PlaceSet) -> Vector
-        requires entries { IsVector entries.items }
-        requires support { support ≡ support_of entries.items }
-        ensures { result ≡ entries.items }
-    {
-        Vector { entries, support }
     }
 
     /// An equal vector.
     pub fn copy(&self, alloc: Global) -> Result<Vector, NoMemory>
         ensures { IfOk result (λ vector. vector ≡ self.now) }
     {
+        let mut numbers = Vec::with_capacity(alloc, self.len())?;
+        numbers.extend_from_slice(self.numbers.as_slice())?;
         Ok(Vector {
-            entries: Vec::from_slice(alloc, self.entries.as_slice())?,
+            numbers,
             support: self.support.copy(alloc)?,
         })
     }
@@ -80,7 +64,7 @@ impl Vector {
         ensures value { result ≡ length self.now }
         ensures bound { result ≤ MAX_ENTRIES }
     {
-        self.entries.len()
+        self.support.size()
     }
 
     /// Entry `i`, counted from 0.
@@ -98,7 +82,11 @@ impl Vector {
         ensures value { result ≡ slice_index self.now i }
         ensures bound { result < 2 ^ 127 }
     {
-        self.entries[i]
+        if self.support.contains(i) {
+            self.numbers[self.support.count_below(i)]
+        } else {
+            0
+        }
     }
 
     /// Lends the set of the positions with a positive entry.
@@ -113,19 +101,14 @@ impl Vector {
         ensures start { result ≡ record { entries = self.now; from = 0 } }
         ensures vector { IsVector self.now }
     {
-        Walk::over(self.entries.as_slice(), &self.support)
+        Walk::over(self.numbers.as_slice(), &self.support)
     }
 
     /// The number of positive entries.
     pub fn positives(&self) -> usize
         ensures { result ≡ positive_count self.now }
     {
-        let mut walk = self.walk();
-        let mut count = 0;
-        'entries: while let Some(_) = walk.next() {
-            count += 1;
-        }
-        count
+        self.numbers.len()
     }
 
     /// The position and the entry of the positive entry number `k` in ascending position, counted from 0.
@@ -144,15 +127,7 @@ impl Vector {
         }
     }
 
-    /// The entries in order, each at most 2^127 - 1.
-    pub fn as_slice(&self) -> &[u128]
-        ensures value { result.now ≡ self.now }
-        ensures bound { IsVector self.now }
-    {
-        self.entries.as_slice()
-    }
-
-    /// Puts a positive entry, at most 2^127 - 1, behind all that are positive.
+    /// Puts a positive entry, at most 2^127 - 1, after all that are positive.
     pub fn append(&mut self, i: usize, entry: u128)
         requires within { i < length self.old }
         requires positive { 0 < entry }
@@ -160,8 +135,10 @@ impl Vector {
         requires behind { AreZerosFrom self.old i }
         ensures { self.new ≡ slice_set self.old i entry }
     {
-        self.entries[i] = entry;
-        self.support.insert(i);
+        match self.numbers.push(entry) {
+            Ok(()) => self.support.insert(i),
+            Err(_) => unreachable!(),
+        }
     }
 
     /// Divides each entry by a number that no positive one is below.
@@ -171,7 +148,7 @@ impl Vector {
         ensures { self.new ≡ map (λ entry. entry / divisor) self.old }
     {
         if divisor > 1 {
-            divide_all(self.entries.as_mut_slice(), divisor);
+            divide_all(self.numbers.as_mut_slice(), divisor);
         }
     }
 
@@ -179,9 +156,8 @@ impl Vector {
     pub fn clear(&mut self)
         ensures { self.new ≡ replicate (length self.old) 0 }
     {
-        for i in 0..self.len() {
-            self.set(i, 0);
-        }
+        self.numbers.clear();
+        self.support.clear();
     }
 
     /// Puts a value, which isn't negative, in the place of entry `i`.
@@ -190,10 +166,38 @@ impl Vector {
         requires natural { pos 0 ≤ℤ value }
         ensures { self.new ≡ slice_set self.old i (positive_part value) }
     {
-        self.entries[i] = value.unsigned_abs();
         if value > 0 {
-            self.support.insert(i);
+            self.put(i, value.unsigned_abs());
         } else {
+            self.take_out(i);
+        }
+    }
+
+    /// Puts a positive entry, at most 2^127 - 1, in the place of entry `i`.
+    fn put(&mut self, i: usize, entry: u128)
+        requires within { i < length self.old }
+        requires positive { 0 < entry }
+        requires narrow { entry < 2 ^ 127 }
+        ensures { self.new ≡ slice_set self.old i entry }
+    {
+        let index = self.support.count_below(i);
+        if self.support.contains(i) {
+            self.numbers[index] = entry;
+            return;
+        }
+        match self.numbers.insert(index, entry) {
+            Ok(()) => self.support.insert(i),
+            Err(_) => unreachable!(),
+        }
+    }
+
+    /// Makes entry `i` 0.
+    fn take_out(&mut self, i: usize)
+        requires { i < length self.old }
+        ensures { self.new ≡ slice_set self.old i 0 }
+    {
+        if self.support.contains(i) {
+            let _entry = self.numbers.remove(self.support.count_below(i));
             self.support.remove(i);
         }
     }
@@ -209,18 +213,14 @@ fn divide_all(numbers: &mut [u128], divisor: u128)
     }
 }
 
-/// The set of the positions with a positive entry.
-fn positive_positions(alloc: Global, entries: &[u128]) -> Result<PlaceSet, NoMemory>
-    requires { length entries.now ≤ MAX_ENTRIES }
-    ensures { IfOk result (λ support. support ≡ support_of entries.now) }
+/// The order of two vectors that are equal before their next positive entries, by these.
+fn order_at(next: (usize, u128), other: Option<(usize, u128)>) -> Ordering
+    ensures { result ≡ next_cmp next other }
 {
-    let mut support = PlaceSet::new(alloc, entries.len())?;
-    for i in 0..entries.len() {
-        if entries[i] > 0 {
-            support.insert(i);
-        }
+    match other {
+        None => Ordering::Greater,
+        Some((position, entry)) => position.cmp(&next.0).then(next.1.cmp(&entry)),
     }
-    Ok(support)
 }
 
 impl PartialEq for Vector {
@@ -259,7 +259,18 @@ impl Ord for Vector {
     ghost matches_eq = { Prim.search (comparing, rules) };
 
     fn cmp(&self, other: &Vector) -> Ordering {
-        self.entries.cmp(&other.entries)
+        let mut walk = self.walk();
+        let mut others = other.walk();
+        'entries: while let Some(next) = walk.next() {
+            let order = order_at(next, others.next());
+            if order != Ordering::Equal {
+                return order;
+            }
+        }
+        match others.next() {
+            Some(_) => Ordering::Less,
+            None => self.len().cmp(&other.len()),
+        }
     }
 }
 

@@ -3,27 +3,38 @@ mod named_nets;
 use super::*;
 use incidence::Incidence;
 use named_nets::{Entry, NamedNet, OF_PLACES, OF_TRANSITIONS};
-use net_values::Rows;
+use net_values::{Rows, Vector};
 use small_nets::net_with;
 use std::alloc::Global;
 use std::process::Abort;
 use std::test::Fail;
 
+/// The entry that the listed ones give the semiflow of this number at a place: 0 where none does.
+fn listed_entry(entries: &[Entry], number: usize, position: usize) -> u128 {
+    entries
+        .iter()
+        .find(|entry| entry.0 == number && entry.1 == position)
+        .map_or(0, |entry| entry.2)
+}
+
+/// Whether the semiflow of this number has the listed entries and 0 at every other place.
+fn is_listed(row: &Vector, number: usize, entries: &[Entry]) -> bool {
+    for position in 0..row.len() {
+        if row.entry_at(position) != listed_entry(entries, number, position) {
+            return false;
+        }
+    }
+    true
+}
+
 /// Whether the list has this many semiflows with these entries and 0 at every other place.
 fn is_list(rows: &Rows, count: usize, entries: &[Entry]) -> bool {
-    let wanted = |number: usize, position: usize| {
-        entries
-            .iter()
-            .find(|entry| entry.0 == number && entry.1 == position)
-            .map_or(0, |entry| entry.2)
-    };
     rows.len() == count
-        && rows.as_slice().iter().enumerate().all(|(number, row)| {
-            row.as_slice()
-                .iter()
-                .enumerate()
-                .all(|(position, entry)| *entry == wanted(number, position))
-        })
+        && rows
+            .as_slice()
+            .iter()
+            .enumerate()
+            .all(|(number, row)| is_listed(row, number, entries))
 }
 
 /// The answer on the matrix is that of the named net.
