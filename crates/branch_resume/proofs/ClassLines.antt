@@ -99,7 +99,7 @@ pub record ReadsWords (size : ℕ) (line rest : List ℕ) (contains avoids : Lis
   pub some : length contains ≡ size
   pub others : length avoids ≡ size
   pub word : before 32 line ≡ name
-  pub behind : rest ≡ from_first 32 line
+  pub following : rest ≡ from_first 32 line
   pub plus : words_in rest ≡ map (signed 43) (places_of contains) ++ words_in more
   pub plus_stops : StopsAfter 43 contains (words_in more)
   pub minus : words_in more ≡ map (signed 45) (places_of avoids) ++ words_in last
@@ -123,7 +123,7 @@ module _ (size : ℕ) (line rest : List ℕ) (contains avoids : List Bool) (more
 
   words_same : (class : Branch) → IsOfNet size class → class_line class ≡ line ++ 10 ∷ [] → IsSame class
   words_same class inside spelled =
-      let all : map (signed 43) (places_of contains) ++ words_in more ≡ class_words class = sym h.plus ∙ ap words_in h.behind ∙ other_words size h.fits class inside line spelled in
+      let all : map (signed 43) (places_of contains) ++ words_in more ≡ class_words class = sym h.plus ∙ ap words_in h.following ∙ other_words size h.fits class inside line spelled in
       let plus = same_front 43 size h.fits 0 (places_of contains) (places_of class.contains) (words_in more) (map (signed 45) (places_of class.avoids))
       (places_ascend 0 contains) (contained_below size h.fits read read_inside) (places_ascend 0 class.contains) (contained_below size h.fits class inside)
       (subst (λ (n : ℕ). StopsFrom 43 (place_after 0 (places_of contains)) n (words_in more)) h.some h.plus_stops) (minus_is_other (places_of class.avoids)) all in
@@ -152,7 +152,7 @@ module _ (size : ℕ) (line rest : List ℕ) (contains avoids : List Bool) (more
   pub names_read : last ≡ [] → (HaveCommon contains avoids → ⊥) → NamesClass size line read
   names_read none apart =
       let ended : map (signed 45) (places_of avoids) ++ words_in last ≡ map (signed 45) (places_of avoids) = ap (λ (xs : List ℕ). map (signed 45) (places_of avoids) ++ words_in xs) none ∙ append-nil (map (signed 45) (places_of avoids)) in
-      let words : (cut 32 line).1 ≡ class_words read = cut_others line ∙ ap words_in (sym h.behind) ∙ h.plus ∙ ap (λ (ws : List (List ℕ)). map (signed 43) (places_of contains) ++ ws) (h.minus ∙ ended) in
+      let words : (cut 32 line).1 ≡ class_words read = cut_others line ∙ ap words_in (sym h.following) ∙ h.plus ∙ ap (λ (ws : List (List ℕ)). map (signed 43) (places_of contains) ++ ws) (h.minus ∙ ended) in
       let word : (cut 32 line).0 ≡ name = cut_first 32 line ∙ h.word in
       let front : line ≡ front_of read = cut_joins 32 line ∙ ap (λ (w : List ℕ). joined 32 w (cut 32 line).1) word ∙ ap (joined 32 name) words in
       record {

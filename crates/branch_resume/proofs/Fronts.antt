@@ -35,10 +35,10 @@ read_none size lines classes none = subst (λ (cs : List Branch). IsReadTo size 
 
 pub read_more : (size : ℕ) (lines : List ℕ) (classes : List Branch) (left line after : List ℕ) (class : Branch) → IsReadTo size lines classes left → line ≡ before 10 left → from_first 10 left ≡ 10 ∷ after → length after < length left → NamesClass size line class
     → IsReadTo size lines (classes ++ class ∷ []) after
-read_more size lines classes left line after class read is behind shorter named =
+read_more size lines classes left line after class read is following shorter named =
     let room = read.room in
     let count = length-append classes (class ∷ []) in
-    let parts : left ≡ class_line class ++ after = line_parts left line after is behind ∙ sym (append_assoc line (10 ∷ []) after) ∙ ap (λ (xs : List ℕ). xs ++ after) (sym named.spelled) in
+    let parts : left ≡ class_line class ++ after = line_parts left line after is following ∙ sym (append_assoc line (10 ∷ []) after) ∙ ap (λ (xs : List ℕ). xs ++ after) (sym named.spelled) in
     let more : class_bytes (classes ++ class ∷ []) ≡ class_bytes classes ++ class_line class = flat_map-append class_line classes (class ∷ []) ∙ ap (λ (xs : List ℕ). class_bytes classes ++ xs) (append-nil (class_line class)) in
     record {
       sizes = All-push (HasSize size) classes class read.sizes named.sizes;
@@ -52,8 +52,8 @@ front_read size lines classes left read stops = record { sizes = read.sizes; con
 
 -- a line of no class, or no line
 pub stops_line : (size : ℕ) (left line after : List ℕ) → size ≤ MAX_PLACES → line ≡ before 10 left → from_first 10 left ≡ 10 ∷ after → NamesNone size line → BeginsNoClass size left
-stops_line size left line after fits is behind none class inside consistent more same =
-    let parts : (line ++ 10 ∷ []) ++ after ≡ class_line class ++ more = append_assoc line (10 ∷ []) after ∙ sym (line_parts left line after is behind) ∙ same in
+stops_line size left line after fits is following none class inside consistent more same =
+    let parts : (line ++ 10 ∷ []) ++ after ≡ class_line class ++ more = append_assoc line (10 ∷ []) after ∙ sym (line_parts left line after is following) ∙ same in
     let ended : IsLine (line ++ 10 ∷ []) = (line, each_all NoFeed line (line_free left line is), refl) in
     none class inside consistent (sym (same_line (line ++ 10 ∷ []) (class_line class) after more ended (is_line size fits class inside) parts).0)
 

@@ -6,7 +6,7 @@ pub fn one_reading()
     ensures { OneReading }
 {}
 
-/// The token of pending classes, with any bytes behind it, is read as these classes.
+/// The token of pending classes, with any bytes after it, is read as these classes.
 pub fn tokens_are_read_back()
     ensures { TokensAreReadBack }
 {}

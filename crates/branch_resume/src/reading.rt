@@ -25,14 +25,14 @@ pub fn read_pending(alloc: Global, net: &FlatNet, rest: &[u8]) -> Result<Branche
     if rest.is_empty() {
         return Ok(all_siphons(alloc, net.places())?);
     }
-    match behind(b"pending\n", rest) {
+    match past_front(b"pending\n", rest) {
         Some(lines) => read_lines(alloc, net.places(), lines),
         None => Err(PendingFault::BadLine(1)),
     }
 }
 
 /// What follows a front, where the bytes begin with it.
-fn behind<'b>(front: &[u8], bytes: &'b [u8]) -> Option<&'b [u8]>
+fn past_front<'b>(front: &[u8], bytes: &'b [u8]) -> Option<&'b [u8]>
     ensures { MatchOption result (BeginsOtherwise front.now bytes.now) (λ rest. bytes.now ≡ front.now ++ rest.now) }
 {
     if bytes.starts_with(front) {
@@ -42,7 +42,7 @@ fn behind<'b>(front: &[u8], bytes: &'b [u8]) -> Option<&'b [u8]>
     }
 }
 
-/// The class of all siphons alone.
+/// The class of all siphons, and no other.
 fn all_siphons(alloc: Global, places: usize) -> Result<Branches, NoMemory>
     requires { places ≤ MAX_PLACES }
     ensures { IfOk result (λ classes. classes ≡ every_set places ∷ []) }
@@ -65,7 +65,7 @@ fn read_lines(alloc: Global, places: usize, lines: &[u8]) -> Result<Branches, Pe
     let left = front_classes(alloc, places, lines, &mut classes)?;
     let mut beyond = Branches::new(alloc);
     let left = front_classes(alloc, MAX_PLACES, left, &mut beyond)?;
-    let Some(_after) = behind(b"end\n", left) else {
+    let Some(_after) = past_front(b"end\n", left) else {
         return Err(PendingFault::BadLine((classes.len() + beyond.len()) as u64 + 2));
     };
     match first_overlap(alloc, places, classes.as_slice())? {

@@ -36,7 +36,7 @@ pending_same levels other (suc d) same =
     ∙ ap (λ (level : Level). after_side (class_of levels d) level.place level.contained (pending_of other d)) (same d (omega arith))
     ∙ ap (λ (classes : List SiphonClass). after_side (class_of levels d) (level_at levels d).place (level_at levels d).contained classes) (pending_same levels other d (λ e less. same e (omega arith)))
 
--- here the places alone count
+-- here only the places count
 pub used_same : (levels other : List Level) (d : ℕ) → ((e : ℕ) → e < d → (level_at other e).place ≡ (level_at levels e).place) → (q : ℕ) → used_of other d q ≡ used_of levels d q
 used_same levels other zero same q = refl
 used_same levels other (suc d) same q =

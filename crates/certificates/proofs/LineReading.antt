@@ -13,7 +13,7 @@ use Rattle.certificates.specs.declared.line.Line.{Line}
 use Rattle.certificates.specs.declared.line.Line.TheVariants.{OpensBounds, OpensBadSiphon, OpensCommoner, Flow, Bound, Siphon, Tree, Ends}
 use Rattle.certificates.specs.WellFormed.{IsNumberFrom, IsFlow, ArePlaces}
 use Rattle.certificates.specs.Words.{before, from_first, cut, words_in, number_in, listed, some_of}
-use Rattle.certificates.specs.Lines.{IsClaim, IsProper, word_of, keywords, keyword_in, place_in, amount_in, term_in, claim_in, alone, split_in, bound_in, flow_in, siphon_in, line_of, line_in}
+use Rattle.certificates.specs.Lines.{IsClaim, IsProper, word_of, keywords, keyword_in, place_in, amount_in, term_in, claim_in, bare, split_in, bound_in, flow_in, siphon_in, line_of, line_in}
 use Rattle.certificates.proofs.Cuts.{IsFree, joined, cut_joins, cut_again, cut_first, cut_others, first_parts, first_begins, first_again}
 use Rattle.certificates.proofs.DecimalTexts.{same_bytes, number_found, number_again, IsDigit, decimal_digits, decimal_some}
 use Rattle.certificates.proofs.Lists.{all_each, each_all, each_map, each_mapped, each_append, Ascends, pairs_ascending, ascends_all, listed_found, listed_again}
@@ -208,23 +208,23 @@ split_found (word ∷ []) line e =
     subst (Says SplitWord (word ∷ [])) m.2 record { keyword_is = refl; words_are = ap (λ (w : List ℕ). w ∷ []) p.0; proper = p.1 }
 split_found (word ∷ more ∷ words) line e = absurd (cc)
 
-alone_found : (one line : Line) (words : List (List ℕ)) → words_of one ≡ [] → IsProper one → alone one words ≡ Some line → Says (keyword_of one) words line
-alone_found one line [] none proper e = let same : one ≡ line = cc in subst (Says (keyword_of one) []) same record { keyword_is = refl; words_are = sym none; proper = proper }
-alone_found one line (word ∷ words) none proper e = absurd (cc)
+bare_found : (one line : Line) (words : List (List ℕ)) → words_of one ≡ [] → IsProper one → bare one words ≡ Some line → Says (keyword_of one) words line
+bare_found one line [] none proper e = let same : one ≡ line = cc in subst (Says (keyword_of one) []) same record { keyword_is = refl; words_are = sym none; proper = proper }
+bare_found one line (word ∷ words) none proper e = absurd (cc)
 
 -- ---- whole lines
 
 said : (keyword : Keyword) (words : List (List ℕ)) (line : Line) → line_of keyword words ≡ Some line → Says keyword words line
-said BoundsWord words line e = alone_found OpensBounds line words refl tt e
-said BadSiphonWord words line e = alone_found OpensBadSiphon line words refl tt e
-said CommonerWord words line e = alone_found OpensCommoner line words refl tt e
+said BoundsWord words line e = bare_found OpensBounds line words refl tt e
+said BadSiphonWord words line e = bare_found OpensBadSiphon line words refl tt e
+said CommonerWord words line e = bare_found OpensCommoner line words refl tt e
 said FlowWord words line e = flow_found words line e
 said BoundWord words line e = bound_found words line e
 said SiphonWord words line e = siphon_found words line e
 said SplitWord words line e = split_found words line e
-said EmptyWord words line e = alone_found (Tree Empty) line words refl tt e
-said TrapWord words line e = alone_found (Tree Trap) line words refl tt e
-said EndWord words line e = alone_found Ends line words refl tt e
+said EmptyWord words line e = bare_found (Tree Empty) line words refl tt e
+said TrapWord words line e = bare_found (Tree Trap) line words refl tt e
+said EndWord words line e = bare_found Ends line words refl tt e
 
 said_again : (line : Line) → IsProper line → line_of (keyword_of line) (words_of line) ≡ Some line
 said_again OpensBounds proper = refl

@@ -44,8 +44,8 @@ same_lines (line ∷ lines) (other ∷ others) rest end each all free ends same 
     let whole : line ++ (bytes_of lines ++ rest) ≡ other ++ (bytes_of others ++ end) = sym (append_assoc line (bytes_of lines) rest) ∙ same ∙ append_assoc other (bytes_of others) end in
     let heads : line ≡ other = one.1 ∙ ap (λ (xs : List ℕ). before 10 xs ++ 10 ∷ []) whole ∙ sym two.1 in
     let tails : 10 ∷ (bytes_of lines ++ rest) ≡ 10 ∷ (bytes_of others ++ end) = sym one.0 ∙ ap (from_first 10) whole ∙ two.0 in
-    let behind : bytes_of lines ++ rest ≡ bytes_of others ++ end = cc in
-    let h = same_lines lines others rest end each.1 all.1 free ends behind in
+    let following : bytes_of lines ++ rest ≡ bytes_of others ++ end = cc in
+    let h = same_lines lines others rest end each.1 all.1 free ends following in
     ((λ i. heads i ∷ h.0 i), h.1)
 
 -- ---- bytes have lines

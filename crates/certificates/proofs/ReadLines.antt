@@ -245,7 +245,7 @@ end_spells bytes rest progress number certificate h ended none =
 -- ---- the first line, cut off
 
 pub line_parts : (rest line after : List ℕ) → line ≡ before 10 rest → from_first 10 rest ≡ 10 ∷ after → rest ≡ line ++ 10 ∷ after
-line_parts rest line after is behind = first_parts 10 rest ∙ (λ i. sym is i ++ behind i)
+line_parts rest line after is following = first_parts 10 rest ∙ (λ i. sym is i ++ following i)
 
 pub line_free : (rest line : List ℕ) → line ≡ before 10 rest → IsFree 10 line
 line_free rest line is = subst (IsFree 10) (sym is) (before_free 10 rest)

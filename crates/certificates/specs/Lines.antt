@@ -76,9 +76,9 @@ claim_in place bound flow =
     option_and_then (λ p. option_and_then (λ b. option_map (λ f. record { place = p; bound = b; flow = f }) (number_in 1 (2 ^ 32) flow)) (amount_in 0 bound)) (place_in place)
 
 -- a line of one word
-abbrev pub alone : Line → List (List ℕ) → Option Line
-alone line [] = Some line
-alone line (word ∷ words) = None
+abbrev pub bare : Line → List (List ℕ) → Option Line
+bare line [] = Some line
+bare line (word ∷ words) = None
 
 abbrev pub split_in : List (List ℕ) → Option Line
 split_in [] = None
@@ -101,16 +101,16 @@ siphon_in words = option_map Siphon (option_and_then some_of (listed place_in (�
 
 -- the line that a first word and the others spell
 abbrev pub line_of : Keyword → List (List ℕ) → Option Line
-line_of BoundsWord words = alone OpensBounds words
-line_of BadSiphonWord words = alone OpensBadSiphon words
-line_of CommonerWord words = alone OpensCommoner words
+line_of BoundsWord words = bare OpensBounds words
+line_of BadSiphonWord words = bare OpensBadSiphon words
+line_of CommonerWord words = bare OpensCommoner words
 line_of FlowWord words = flow_in words
 line_of BoundWord words = bound_in words
 line_of SiphonWord words = siphon_in words
 line_of SplitWord words = split_in words
-line_of EmptyWord words = alone (Tree Empty) words
-line_of TrapWord words = alone (Tree Trap) words
-line_of EndWord words = alone Ends words
+line_of EmptyWord words = bare (Tree Empty) words
+line_of TrapWord words = bare (Tree Trap) words
+line_of EndWord words = bare Ends words
 
 -- the line that bytes without their line feed spell
 unfoldable pub line_in : List ℕ → Option Line

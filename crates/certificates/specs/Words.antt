@@ -12,7 +12,7 @@ abbrev pub from_first : ℕ → List ℕ → List ℕ
 from_first separator [] = []
 from_first separator (byte ∷ bytes) = if byte == separator then byte ∷ bytes else from_first separator bytes
 
--- what stands before the first separator, and after each one up to the next
+-- what is before the first separator, and after each one up to the next
 abbrev pub cut : ℕ → List ℕ → List ℕ × List (List ℕ)
 cut separator [] = ([], [])
 cut separator (byte ∷ bytes) =

@@ -1,5 +1,5 @@
 ghost use Rattle.std.specs.Prelude.{◌≡◌, [], IfOk};
-ghost use Rattle.certificates.specs.Lines.{alone, bound_in, claim_in, flow_in, line_in, line_of, place_in, siphon_in, split_in, term_in};
+ghost use Rattle.certificates.specs.Lines.{bare, bound_in, claim_in, flow_in, line_in, line_of, place_in, siphon_in, split_in, term_in};
 ghost use Rattle.certificates.specs.Words.{listed, words_in};
 
 use crate::certificate::{Claim, Flow, PlaceList, TreeLine};
@@ -27,22 +27,22 @@ fn line_after(alloc: Global, keyword: Keyword, rest: &[u8]) -> Result<Option<Lin
     ensures { IfOk result (λ line. line ≡ line_of keyword (words_in rest.now)) }
 {
     match keyword {
-        Keyword::BoundsWord => Ok(alone(Line::OpensBounds, rest)),
-        Keyword::BadSiphonWord => Ok(alone(Line::OpensBadSiphon, rest)),
-        Keyword::CommonerWord => Ok(alone(Line::OpensCommoner, rest)),
+        Keyword::BoundsWord => Ok(bare(Line::OpensBounds, rest)),
+        Keyword::BadSiphonWord => Ok(bare(Line::OpensBadSiphon, rest)),
+        Keyword::CommonerWord => Ok(bare(Line::OpensCommoner, rest)),
         Keyword::FlowWord => flow(alloc, rest),
         Keyword::BoundWord => Ok(bound(rest)),
         Keyword::SiphonWord => siphon(alloc, rest),
         Keyword::SplitWord => Ok(split_at(rest)),
-        Keyword::EmptyWord => Ok(alone(Line::Tree(TreeLine::Empty), rest)),
-        Keyword::TrapWord => Ok(alone(Line::Tree(TreeLine::Trap), rest)),
-        Keyword::EndWord => Ok(alone(Line::Ends, rest)),
+        Keyword::EmptyWord => Ok(bare(Line::Tree(TreeLine::Empty), rest)),
+        Keyword::TrapWord => Ok(bare(Line::Tree(TreeLine::Trap), rest)),
+        Keyword::EndWord => Ok(bare(Line::Ends, rest)),
     }
 }
 
 /// The line, where nothing follows its word.
-fn alone(line: Line, rest: &[u8]) -> Option<Line>
-    ensures { result ≡ alone line (words_in rest.now) }
+fn bare(line: Line, rest: &[u8]) -> Option<Line>
+    ensures { result ≡ bare line (words_in rest.now) }
 {
     match rest {
         [] => Some(line),

@@ -9,7 +9,7 @@ use net_values::{MAX_PLACES, read_decimal};
 const WIDE: u128 = 0x8000_0000_0000_0000_0000_0000_0000_0000;
 
 /// The number that the text is, from the least to below the limit.
-fn number(least: u128, limit: u128, text: &[u8]) -> Option<u128>
+fn read_number(least: u128, limit: u128, text: &[u8]) -> Option<u128>
     ensures value { result ≡ number_in least limit text.now }
     ensures range { IfSome result (λ n. n < limit) }
 {
@@ -26,7 +26,7 @@ pub fn place(text: &[u8]) -> Option<u32>
     ensures value { result ≡ place_in text.now }
     ensures range { IfSome result (λ p. p < 2048) }
 {
-    let place = number(0, MAX_PLACES as u128, text)?;
+    let place = read_number(0, MAX_PLACES as u128, text)?;
     Some(place as u32)
 }
 
@@ -34,7 +34,7 @@ pub fn place(text: &[u8]) -> Option<u32>
 pub(crate) fn flow_number(text: &[u8]) -> Option<u32>
     ensures { result ≡ number_in 1 (2 ^ 32) text.now }
 {
-    let flow = number(1, 0x1_0000_0000, text)?;
+    let flow = read_number(1, 0x1_0000_0000, text)?;
     Some(flow as u32)
 }
 
@@ -42,7 +42,7 @@ pub(crate) fn flow_number(text: &[u8]) -> Option<u32>
 pub(crate) fn amount(least: u128, text: &[u8]) -> Option<i128>
     ensures { result ≡ amount_in least text.now }
 {
-    let amount = number(least, WIDE, text)?;
+    let amount = read_number(least, WIDE, text)?;
     Some(amount as i128)
 }
 

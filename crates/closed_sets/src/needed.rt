@@ -12,7 +12,7 @@ use crate::minimal::has_siphon_without;
 use net_values::{FlatNet, PlaceSet};
 
 /// Whether a nonempty siphon has no smaller nonempty siphon in it, which is so where each place of it is needed. The
-/// places from which arcs lead to a needed one are mostly needed too, so few are tried alone. What the scratch sets and
+/// places from which arcs lead to a needed one are mostly needed too, so few are tried one by one. What the scratch sets and
 /// the scratch list hold is lost.
 pub fn has_no_smaller_siphon(
     net: &FlatNet,

@@ -44,7 +44,7 @@ abbrev pub by_transition : Net → Matrix
 by_transition net = transposed (incidence_of net)
 
 -- the state equation: the marking is the initial one and, at each place, the sum of the counts with the
--- entries of the incidence matrix; what is taken stands on the left
+-- entries of the incidence matrix; what is taken is on the left
 abbrev pub MeetsStateEquation : Net → (ℕ → ℕ) → (ℕ → ℕ) → Type 0
 MeetsStateEquation net counts M =
     (p : ℕ) → p < net.places → M p + loss_sum (by_transition net) p counts ≡ net.initial p + gain_sum (by_transition net) p counts

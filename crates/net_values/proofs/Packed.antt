@@ -1,4 +1,4 @@
--- The positive entries alone, in order: with the set of their positions they give all entries back, and the entry at a
+-- Only the positive entries, in order: with the set of their positions they give all entries back, and the entry at a
 -- position is the number whose index is the count of positive entries before it.
 use Rattle.std.proofs.Common.{◌≡◌, refl, sym, ap, ◌∙◌, subst, ℕ, zero, suc, ◌+◌, ◌<◌, ◌≤◌, List, [], ◌∷◌, ◌++◌, Bool, true, false, length, get_or, drop, insert, remove, replicate, slice_index, slice_set, arith}
 use Rattle.std.proofs.lemmas.Bool.{lt-ltb}

@@ -1,4 +1,4 @@
--- The lexicographic order of sets, from their words: the lowest place that is in one of two sets alone is the
+-- The lexicographic order of sets, from their words: the lowest place that is in only one of two sets is the
 -- lowest bit that differs in the first words that differ, and the set that has it is the greater one. Without
 -- such a place the smaller size comes first.
 use Rattle.std.proofs.Common.{◌≡◌, refl, sym, ap, ◌∙◌, ℕ, zero, suc, ◌+◌, ◌*◌, ◌/◌, ◌%◌, ◌<◌, ◌==◌, List, [], ◌∷◌, Bool, true, false, not, length, slice_index, inl, inr, arith}

@@ -25,7 +25,7 @@ pub record IsLowestBit (word bit : ℕ) : Type 0 where
   pub here : bit_at word bit ≡ 1
   pub lowest : (i : ℕ) → i < bit → bit_at word i ≡ 0
 
--- the lowest place that is in one of two sets alone; the first has it or hasn't
+-- the lowest place that is in only one of two sets; the first has it or hasn't
 pub record IsFirstDifference (words others : List ℕ) (p : ℕ) (in_first : Bool) : Type 0 where
   pub first : word_has words p ≡ in_first
   pub second : word_has others p ≡ not in_first

@@ -19,7 +19,7 @@ pub record IsVector (entries : List ℕ) : Type 0 where
 abbrev pub support_of : List ℕ → List Bool
 support_of entries = map (λ entry. nat_lt 0 entry) entries
 
--- the positive entries alone, in order of position
+-- only the positive entries, in order of position
 abbrev pub packed : List ℕ → List ℕ
 packed [] = []
 packed (zero ∷ entries) = packed entries

@@ -127,7 +127,7 @@ pub(crate) fn unite_words(words: &mut [u64], others: &[u64])
     }
 }
 
-/// Whether the lowest place that is in one of two sets alone is in the first.
+/// Whether the lowest place that is in only one of two sets is in the first.
 pub(crate) fn first_difference(words: &[u64], others: &[u64]) -> Option<bool>
     ensures { MatchOption result
         ((k : ℕ) → k < length words.now → k < length others.now → slice_index words.now k ≡ slice_index others.now k)

@@ -17,7 +17,7 @@ use std::cmp::Ordering;
 use std::marker::Model;
 
 /// A list of at most `MAX_ENTRIES` entries, none negative. Contracts see it as the list of natural numbers. It
-/// keeps its positive entries alone, in order, and the set of their positions, with room for an entry at each.
+/// keeps only its positive entries, in order, and the set of their positions, with room for an entry at each.
 #[derive(Drop)]
 pub struct Vector {
     numbers: Vec<u128>,
@@ -132,7 +132,7 @@ impl Vector {
         requires within { i < length self.old }
         requires positive { 0 < entry }
         requires narrow { entry < 2 ^ 127 }
-        requires behind { AreZerosFrom self.old i }
+        requires following { AreZerosFrom self.old i }
         ensures { self.new ≡ slice_set self.old i entry }
     {
         match self.numbers.push(entry) {

@@ -5,7 +5,7 @@ use crate::place_set::PlaceSet;
 use std::marker::Model;
 
 /// A walk over the positive entries of a vector in ascending position. Contracts see the entries, and the position
-/// from which on the next positive one is looked for. It knows where the next number stands.
+/// from which on the next positive one is looked for. It knows the index of the next number.
 #[derive(Drop)]
 pub struct Walk<'v> {
     numbers: &'v [u128],

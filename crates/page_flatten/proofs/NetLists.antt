@@ -28,10 +28,10 @@ module _ {X : Type 0} where
   cut_at (y ∷ xs) (suc k) x at = ap (λ l. y ∷ l) (cut_at xs k x at)
 
   -- a list of one member
-  pub alone : (xs : List X) (x : X) → length xs ≡ 1 → slice_get xs 0 ≡ Some x → xs ≡ x ∷ []
-  alone [] x one at = absurd cc
-  alone (y ∷ []) x one at = ap (λ z. z ∷ []) (some_is at)
-  alone (y ∷ z ∷ xs) x one at = absurd (omega (arith, one))
+  pub only_member : (xs : List X) (x : X) → length xs ≡ 1 → slice_get xs 0 ≡ Some x → xs ≡ x ∷ []
+  only_member [] x one at = absurd cc
+  only_member (y ∷ []) x one at = ap (λ z. z ∷ []) (some_is at)
+  only_member (y ∷ z ∷ xs) x one at = absurd (omega (arith, one))
 
   module _ (P : X → Type 0) where
     pub each_more : (xs : List X) (k : ℕ) (x : X) → slice_get xs k ≡ Some x → AllByRecursion P (take k xs) → P x → AllByRecursion P (take (k + 1) xs)

@@ -56,7 +56,7 @@ name_height_is : (name : Option (List ℕ)) → name_height name ≤ 2
 name_height_is None = omega arith
 name_height_is (Some name) = omega arith
 
--- the net is read behind those before
+-- the net is read after those before it
 abbrev NetLeads : List NetTree → NetTree → Counts → Type 0
 NetLeads before net counts = Leads (root_state before counts) (net_tokens net) (root_state (before ++ net ∷ []) (counts plus items_counts net.items))
 

@@ -149,7 +149,7 @@ pub fn read_buffer(alloc: Global) -> Result<Vec<u8>, net_values::NoMemory>
 }
 
 /// Reads once, at most what fills the buffer, where so many bytes were read `before` and at most `limit` may be. The
-/// bytes are the first ones of the buffer; the answer is their number, which is 0 at the end of input alone.
+/// bytes are the first ones of the buffer; the answer is their number, which is 0 only at the end of input.
 ///
 /// Errors: `ReadFault` where the source failed, `TooLong` where it gave byte `limit + 1`.
 pub fn read_piece<S: Source>(
@@ -162,7 +162,7 @@ pub fn read_piece<S: Source>(
     requires within { before ≤ limit }
     requires room { 0 < length buffer.old }
 
-    // The bytes taken lie in the buffer, and none come at the end alone.
+    // The bytes taken lie in the buffer, and only at the end none come.
     ensures fits { IfOk result (λ count. count ≤ length buffer.new) }
     ensures taken { IfOk result (λ count. Consumes (S.left source.old) (S.left source.new) (take count buffer.new)) }
     ensures within { IfOk result (λ count. before + count ≤ limit) }

@@ -1,4 +1,4 @@
--- What a token is stands in pnml_grammar. The public clauses cite the words of Steps on the variants of an answer, to be
+-- What a token is, pnml_grammar defines. The public clauses cite the words of Steps on the variants of an answer, to be
 -- read and believed.
 pub mod Steps
 pub mod Streams

@@ -1,7 +1,7 @@
 -- The combinatorial adjacency test: of the combinations of a positive and a negative row of a basis, those of
 -- minimal support over one column more are the ones of adjacent rows, whose union has no third row in it. So the
 -- zero rows and the combinations of the adjacent pairs are a basis over one column more. Below each semiflow
--- stands one of them: where a third row spoils a pair, the pair's join has a smaller semiflow in it.
+-- is one of them: where a third row spoils a pair, the pair's join has a smaller semiflow in it.
 use Rattle.std.proofs.Common.{◌≡◌, ◌⊎◌, refl, sym, ap, ◌∙◌, subst, ℕ, zero, suc, ◌+◌, ◌*◌, ◌/◌, ◌<◌, ◌≤◌, List, [], length, slice_index, All, AllPairs, inl, inr, arith}
 use Rattle.std.specs.Int.{◌∣◌}
 use Rattle.std.proofs.lemmas.Bool.{cases_lt, cases_eq, cases_order}
@@ -107,14 +107,14 @@ module _ (m : Matrix) (K : ℕ → Type 0) (rows : List (List ℕ)) (basis : IsB
             absurd (omega arith)
       ]
 
-  -- a row whose support is in another row's stands at its place
+  -- a row whose support is in another row's is at its index
   pub one_place : (j i : ℕ) → j < length rows → i < length rows → IsWithin m (slice_index (row_of rows j)) (slice_index (row_of rows i)) → j ≡ i
   one_place j i first second within =
       elim (cases_order j i) [
         | inl same ↦ same
         | inr apart ↦ elim apart [
           | inl before ↦ absurd ((basis.apart j i [] before second).forth (anywhere j i first within))
-          | inr behind ↦ absurd ((basis.apart i j [] behind first).back (anywhere j i first within))
+          | inr following ↦ absurd ((basis.apart i j [] following first).back (anywhere j i first within))
         ]
       ]
 

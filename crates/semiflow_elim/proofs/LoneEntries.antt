@@ -1,4 +1,4 @@
--- A row with one positive entry alone is adjacent to each other row: a row in the union of the two has that entry, and so
+-- A row with only one positive entry is adjacent to each other row: a row in the union of the two has that entry, and so
 -- the row in it, or hasn't, and is in the other row.
 use Rattle.std.proofs.Common.{◌≡◌, sym, ap, ◌∙◌, subst, ℕ, ◌+◌, ◌<◌, ◌≤◌, nat_lt, List, Bool, true, false, length, slice_index, inl, inr, arith}
 use Rattle.std.proofs.lemmas.Bool.{cases_lt, cases_eq, lt-ltb, le-ltb, true≢false}
@@ -22,7 +22,7 @@ only_first row set p is first none =
         | inl some ↦ some
         | inr zero ↦ absurd (true≢false (sym first.member ∙ seen p ∙ le-ltb 0 (slice_index row p) zero))
       ];
-      alone = λ x some.
+      only = λ x some.
           let member : has set x ≡ true = seen x ∙ lt-ltb 0 (slice_index row x) some in
           elim (cases_lt x p) [
             | inl before ↦ absurd (true≢false (sym member ∙ first.first x (omega arith) before))
@@ -40,12 +40,12 @@ module _ (m : Matrix) (K : ℕ → Type 0) (rows : List (List ℕ)) (basis : IsB
   pub first_alone : HasOne (row_of rows i) → AreAdjacent m rows i k
   first_alone one = λ j under within.
       elim (cases_lt 0 (slice_index (row_of rows j) one.at)) [
-        | inl some ↦ inl (sym (one_place m K rows basis i j first under (λ x inside positive. subst (λ (y : ℕ). 0 < slice_index (row_of rows j) y) (sym (one.alone x positive)) some)))
+        | inl some ↦ inl (sym (one_place m K rows basis i j first under (λ x inside positive. subst (λ (y : ℕ). 0 < slice_index (row_of rows j) y) (sym (one.only x positive)) some)))
         | inr none ↦ inr (one_place m K rows basis j k under second (λ x inside positive.
             let both = within x inside positive in
             elim (cases_lt 0 (slice_index (row_of rows i) x)) [
               | inl here ↦
-                  let moved : 0 < slice_index (row_of rows j) one.at = subst (λ (y : ℕ). 0 < slice_index (row_of rows j) y) (one.alone x here) positive in
+                  let moved : 0 < slice_index (row_of rows j) one.at = subst (λ (y : ℕ). 0 < slice_index (row_of rows j) y) (one.only x here) positive in
                   absurd (omega arith)
               | inr away ↦ omega arith
             ]))

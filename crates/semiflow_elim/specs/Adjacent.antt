@@ -21,11 +21,11 @@ AloneBelow m rows i k n = (j : ℕ) → j < n → IsInUnion m rows i k j → (j 
 abbrev pub AreAdjacent : Matrix → List (List ℕ) → ℕ → ℕ → Type 0
 AreAdjacent m rows i k = AloneBelow m rows i k (length rows)
 
--- the row has one positive entry alone
+-- the row has only one positive entry
 pub record HasOne (row : List ℕ) : Type 0 where
   pub at : ℕ
   pub positive : 0 < slice_index row at
-  pub alone : (x : ℕ) → 0 < slice_index row x → x ≡ at
+  pub only : (x : ℕ) → 0 < slice_index row x → x ≡ at
 
 -- row j is a third row in the union
 pub record IsThird (m : Matrix) (rows : List (List ℕ)) (i k j : ℕ) : Type 0 where

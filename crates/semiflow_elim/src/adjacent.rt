@@ -7,7 +7,7 @@ use crate::step::Step;
 use net_values::Vector;
 
 /// Whether no third row has a support in the union of those of the rows `i` and `k`. Where one of the two has one
-/// positive entry alone there is no third one: a row with this entry would have that row in it, and one without
+/// positive entry only there is no third one: a row with this entry would have that row in it, and one without
 /// would be in the other. Else all rows are gone over, since a third row may have any sign.
 pub(crate) fn are_adjacent(step: &Step<'_>, i: usize, k: usize) -> bool
     requires step { let given = step.now in
@@ -54,7 +54,7 @@ fn is_third(step: &Step<'_>, i: usize, k: usize, j: usize) -> bool
         .is_within_either(rows[i].support(), rows[k].support())
 }
 
-/// Whether a row has one positive entry alone.
+/// Whether a row has only one positive entry.
 fn has_one(row: &Vector) -> bool
     ensures { IsTrue result → HasOne row.now }
 {

@@ -43,7 +43,7 @@ pub(crate) fn unit_sums(
 }
 
 /// The sums of a row at each column outside a set, in the order of the columns and without those that are both 0.
-/// The row has sums other than 0 at the touched columns alone.
+/// The row has sums other than 0 only at the touched columns.
 fn carried_sums(
     alloc: Global,
     matrix: &Incidence,

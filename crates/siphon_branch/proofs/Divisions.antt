@@ -1,4 +1,4 @@
--- Where a search stands: classes may be replaced by others in which the same siphons are grown, and a class in which
+-- How far a search is: classes may be replaced by others in which the same siphons are grown, and a class in which
 -- one siphon is grown by that siphon.
 use Rattle.std.proofs.Common.{◌≡◌, ◌↔◌, ◌⊎◌, refl, sym, ap, ◌∙◌, subst, ℕ, ◌+◌, ◌-◌, List, [], ◌∷◌, ◌++◌, Bool, length, get_or, length-append, inl, inr, AllPairs, Contains, arith}
 use Rattle.std.proofs.lemmas.Bool.{both_ways}

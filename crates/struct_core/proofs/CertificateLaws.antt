@@ -18,7 +18,7 @@ use Rattle.cert_check.proofs.Claims.{true_claim, excludes_dead}
 abbrev safe_text : List ℕ
 safe_text = codes "accepted commoner\ndeadlock-free proved\n"
 
--- the letter after `accepted ` or the one behind it tells the other kinds, and the one after `deadlock-free ` that
+-- the letter after `accepted ` or the next one tells the other kinds, and the one after `deadlock-free ` that
 -- nothing is proved
 is_proved : (proved : Bool) → safe_text ≡ codes "accepted commoner\n" ++ deadlock_line proved → proved ≡ true
 is_proved true same = refl

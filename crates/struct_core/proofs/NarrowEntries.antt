@@ -1,5 +1,5 @@
 -- Where both sums of a minimal semiflow are narrow at each transition, so is each entry: a place with an arc that
--- counts occurs in a sum, and a place without one is a semiflow alone, so that it is the only one, with the entry 1.
+-- counts occurs in a sum, and a place without one is a semiflow by itself, so that it is the only one, with the entry 1.
 use Rattle.std.proofs.Common.{◌≡◌, ◌≢◌, ℕ, zero, suc, ◌+◌, ◌*◌, ◌^◌, ◌<◌, ◌≤◌, List, [], length, refl, sym, ap, subst, ◌∙◌, arith, inl, inr}
 use Rattle.std.specs.Prelude.{Bool, ◌==◌, true, false, if◌then◌else◌, slice_index, slice_index_or}
 use Rattle.std.specs.Int.{◌∣◌}
@@ -25,7 +25,7 @@ scaled : (a b : ℕ) → 0 < b → a ≤ a * b
 scaled a zero some = absurd (omega (arith, some))
 scaled a (suc b) some = omega arith
 
--- one place alone
+-- a single place
 abbrev unit : ℕ → ℕ → ℕ
 unit p i = if i == p then 1 else 0
 
@@ -73,8 +73,8 @@ module _ (m : Matrix) (y : ℕ → ℕ) (p : ℕ) (under : p < m.rows) (minimal 
       | inr zero_is ↦ omega (arith, zero_is)
     ]
 
-    alone : IsSemiflow m all_columns (unit p)
-    alone = record {
+    single : IsSemiflow m all_columns (unit p)
+    single = record {
       nonzero = (p, under, (let one = unit_here p in omega (arith, one)));
       balanced = λ t inside all.
           below_zero m.rows (λ i. unit p i * positive_at m i t) (λ i low. no_term (λ k. positive_at m k t) i (no_gain t inside))
@@ -83,7 +83,7 @@ module _ (m : Matrix) (y : ℕ → ℕ) (p : ℕ) (under : p < m.rows) (minimal 
 
     only : 0 < y p → (i : ℕ) → i < m.rows → i ≢ p → y i ≡ 0
     only some i inside other =
-        let inner = minimal.least (unit p) alone (λ k low positive. subst (λ (q : ℕ). 0 < y q) (sym (unit_positive p k positive)) some) in
+        let inner = minimal.least (unit p) single (λ k low positive. subst (λ (q : ℕ). 0 < y q) (sym (unit_positive p k positive)) some) in
         elim (cases_lt 0 (y i)) [
           | inl more ↦ absurd (other (unit_positive p i (inner i inside more)))
           | inr zero_is ↦ omega (arith, zero_is)

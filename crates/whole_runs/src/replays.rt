@@ -47,7 +47,7 @@ const REPLAYED: [Replayed; 7] = [
         b"firing list rejected at line 2: p lacks tokens\n",
     ),
     (
-        "an id that no transition has, behind one that isn't enabled",
+        "an id that no transition has, after one that isn't enabled",
         b"u\nx\n",
         1,
         b"",

@@ -83,7 +83,7 @@ const REFUSED: [(&str, &[u8], &[u8]); 5] = [
         b"pending malformed at line 2\n",
     ),
     (
-        "a malformed line behind a class that is rejected",
+        "a malformed line after a class that is rejected",
         b"pending\nclass +2\nclas\nend\n",
         b"pending malformed at line 3\n",
     ),

@@ -15,9 +15,9 @@ returns-in_default-2 c =
     let line = c.in-Some.line.now in
     let after = c.in-Some.after.now in
     let first : line ≡ before 10 left = search rules in
-    let behind : from_first 10 left ≡ 10 ∷ after = search rules in
+    let following : from_first 10 left ≡ 10 ∷ after = search rules in
     let none : NamesNone c.args.size line = search rules in
-    front_read c.args.size c.args.lines.now c.lines.classes left c.lines.invariant (stops_line c.args.size left line after c.requires.size first behind none)
+    front_read c.args.size c.args.lines.now c.lines.classes left c.lines.invariant (stops_line c.args.size left line after c.requires.size first following none)
 
 pub lines-preserved : goal.lines-preserved
 lines-preserved c =
@@ -25,12 +25,12 @@ lines-preserved c =
     let line = c.in-Some.line.now in
     let after = c.in-Some.after.now in
     let first : line ≡ before 10 left = search rules in
-    let behind : from_first 10 left ≡ 10 ∷ after = search rules in
+    let following : from_first 10 left ≡ 10 ∷ after = search rules in
     let shorter : length after < length left = search rules in
     let named : NamesClass c.args.size line c.in-Some-2.class = search rules in
     let grown : c.push.new.self ≡ c.lines.classes ++ c.in-Some-2.class ∷ [] = c.in_ok-push.ensures.ok in
     subst (λ (classes : List Branch). IsReadTo c.args.size c.args.lines.now classes after) (sym grown)
-    (read_more c.args.size c.args.lines.now c.lines.classes left line after c.in-Some-2.class c.lines.invariant first behind shorter named)
+    (read_more c.args.size c.args.lines.now c.lines.classes left line after c.in-Some-2.class c.lines.invariant first following shorter named)
 
 pub returns : goal.returns
 returns c =

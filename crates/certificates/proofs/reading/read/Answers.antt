@@ -16,11 +16,11 @@ returns-in-None-clause-bad c = λ number is.
     let line = c.in-Some.line.now in
     let after = c.in-Some.after.now in
     let first : line ≡ before 10 rest = search rules in
-    let behind : from_first 10 rest ≡ 10 ∷ after = search rules in
+    let following : from_first 10 rest ≡ 10 ∷ after = search rules in
     let stops : option_and_then (next c.lines.progress) (line_in line) ≡ None = sym c.in_ok-later.ensures ∙ c.in-None.is in
     let same : c.lines.number ≡ number = cc in
     subst (IsBadLine c.args.bytes.now) same
-    (line_is_bad c.args.bytes.now rest line after c.lines.progress c.lines.number c.lines.invariant.0 (line_parts rest line after first behind) (line_free rest line first) stops)
+    (line_is_bad c.args.bytes.now rest line after c.lines.progress c.lines.number c.lines.invariant.0 (line_parts rest line after first following) (line_free rest line first) stops)
 
 pub lines-preserved : goal.lines-preserved
 lines-preserved c =
@@ -28,13 +28,13 @@ lines-preserved c =
     let line = c.in-Some.line.now in
     let after = c.in-Some.after.now in
     let first : line ≡ before 10 rest = search rules in
-    let behind : from_first 10 rest ≡ 10 ∷ after = search rules in
+    let following : from_first 10 rest ≡ 10 ∷ after = search rules in
     let shorter : length after + 1 ≤ length rest = search rules in
     let moves : option_and_then (next c.lines.progress) (line_in line) ≡ Some c.in-Some-2.later = sym c.in_ok-later.ensures ∙ c.in-Some-2.is in
     let more = due_after c.lines.progress (line_in line) c.in-Some-2.later moves in
     let due = c.lines.invariant.1 in
     let room = c.lines.invariant.2 in (
-      read_more c.args.bytes.now rest line after c.lines.progress c.in-Some-2.later c.lines.number c.lines.invariant.0 (line_parts rest line after first behind) moves,
+      read_more c.args.bytes.now rest line after c.lines.progress c.in-Some-2.later c.lines.number c.lines.invariant.0 (line_parts rest line after first following) moves,
       omega (arith, more, due),
       omega (arith, room, shorter),
     )

@@ -5,5 +5,5 @@ use Rattle.certificates.proofs.words.next_line.Goals as goal
 
 pub returns-in-len1-up : goal.returns-in-len1-up
 returns-in-len1-up c =
-    let behind = line_behind c.args.bytes.now c.split.result.1.now c.split.ensures.rest c.in-len1-up.len_at_least in
-    record { parts = (c.split.ensures.first, omega (arith, behind.1, c.split.ensures.size), behind.0) }
+    let following = line_behind c.args.bytes.now c.split.result.1.now c.split.ensures.rest c.in-len1-up.len_at_least in
+    record { parts = (c.split.ensures.first, omega (arith, following.1, c.split.ensures.size), following.0) }

@@ -18,11 +18,11 @@ returns-in-None-clause-bad c = λ number is.
     let line = c.in-Some.line.now in
     let after = c.in-Some.after.now in
     let first : line ≡ before 10 left = search rules in
-    let behind : from_first 10 left ≡ 10 ∷ after = search rules in
+    let following : from_first 10 left ≡ 10 ∷ after = search rules in
     let none : IsFoundFrom net.transitions ids 0 line None = subst (IsFoundFrom net.transitions ids 0 line) (sym c.number_of.ensures ∙ c.in-None.is) (c.in_ok-numbers.ensures line) in
     let same : length c.lines.firings + 1 ≡ number = ap (λ n. n + 1) (sym c.len.ensures) ∙ (let both = is in cc) in
     subst (IsBadFiringLine net ids c.args.rest.now) same
-    (line_is_bad net ids c.args.rest.now left line after c.lines.firings c.lines.invariant.0 (line_parts left line after first behind) (line_free left line first) (no_line net ids line none))
+    (line_is_bad net ids c.args.rest.now left line after c.lines.firings c.lines.invariant.0 (line_parts left line after first following) (line_free left line first) (no_line net ids line none))
 
 pub lines-preserved : goal.lines-preserved
 lines-preserved c =
@@ -33,13 +33,13 @@ lines-preserved c =
     let after = c.in-Some.after.now in
     let t = c.in-Some-number_of.t in
     let first : line ≡ before 10 left = search rules in
-    let behind : from_first 10 left ≡ 10 ∷ after = search rules in
+    let following : from_first 10 left ≡ 10 ∷ after = search rules in
     let shorter : length after + 1 ≤ length left = search rules in
     let found : IsFoundFrom net.transitions ids 0 line (Some t) = subst (IsFoundFrom net.transitions ids 0 line) (sym c.number_of.ensures ∙ c.in-Some-number_of.is) (c.in_ok-numbers.ensures line) in
     let grown : c.push.new.self ≡ c.lines.firings ++ t ∷ [] = c.in_ok-push-in-Some-number_of.ensures.ok in
     let size : length c.push.new.self ≡ length c.lines.firings + 1 = ap length grown ∙ length_push c.lines.firings t in
     let room = c.lines.invariant.1 in (
-      rw grown (read_more net ids c.args.rest.now left line after c.lines.firings t c.lines.invariant.0 (line_parts left line after first behind) (line_free left line first) (found_line net ids line t found)),
+      rw grown (read_more net ids c.args.rest.now left line after c.lines.firings t c.lines.invariant.0 (line_parts left line after first following) (line_free left line first) (found_line net ids line t found)),
       omega (arith, size, shorter, room),
     )
 

@@ -15,10 +15,10 @@ invariant_of-self c =
     let size = unpacked_size support numbers in
     let view : length entries ≡ length c.args.self.now = ap length c.self.view_is in
     let within : c.args.i < length entries = omega (arith, c.requires.within) in
-    let behind = subst (λ (es : List ℕ). (p : ℕ) → c.args.i ≤ p → slice_index es p ≡ 0) (sym c.self.view_is) c.requires.behind in
+    let following = subst (λ (es : List ℕ). (p : ℕ) → c.args.i ≤ p → slice_index es p ≡ 0) (sym c.self.view_is) c.requires.following in
     let more = length-set entries c.args.i c.args.entry in
     let room = c.push.ensures.capacity in
-    stored (slice_set entries c.args.i c.args.entry) _ _ _ _ c.insert.ensures c.in-Ok.ensures.items (pushed_kept entries support numbers kept c.args.i c.args.entry within c.requires.positive c.requires.narrow behind) _ (omega arith)
+    stored (slice_set entries c.args.i c.args.entry) _ _ _ _ c.insert.ensures c.in-Ok.ensures.items (pushed_kept entries support numbers kept c.args.i c.args.entry within c.requires.positive c.requires.narrow following) _ (omega arith)
 
 pub unreachable-requires : goal.unreachable-requires
 unreachable-requires c =
@@ -30,8 +30,8 @@ unreachable-requires c =
     let size = unpacked_size support numbers in
     let view : length entries ≡ length c.args.self.now = ap length c.self.view_is in
     let within : c.args.i < length entries = omega (arith, c.requires.within) in
-    let behind = subst (λ (es : List ℕ). (p : ℕ) → c.args.i ≤ p → slice_index es p ≡ 0) (sym c.self.view_is) c.requires.behind in
-    let none = not_full entries c.args.i within (behind c.args.i (omega arith)) in
+    let following = subst (λ (es : List ℕ). (p : ℕ) → c.args.i ≤ p → slice_index es p ≡ 0) (sym c.self.view_is) c.requires.following in
+    let none = not_full entries c.args.i within (following c.args.i (omega arith)) in
     let count = count_is entries support numbers kept in
     absurd (false≢true (c.in-Err.ensures.succeeds (omega (arith, c.self.inside.numbers.ok.0))))
 
@@ -45,6 +45,6 @@ returns c =
     let size = unpacked_size support numbers in
     let view : length entries ≡ length c.args.self.now = ap length c.self.view_is in
     let within : c.args.i < length entries = omega (arith, c.requires.within) in
-    let behind = subst (λ (es : List ℕ). (p : ℕ) → c.args.i ≤ p → slice_index es p ≡ 0) (sym c.self.view_is) c.requires.behind in
-    shown (slice_set entries c.args.i c.args.entry) _ _ _ _ c.insert.ensures c.in-Ok.ensures.items (pushed_kept entries support numbers kept c.args.i c.args.entry within c.requires.positive c.requires.narrow behind)
+    let following = subst (λ (es : List ℕ). (p : ℕ) → c.args.i ≤ p → slice_index es p ≡ 0) (sym c.self.view_is) c.requires.following in
+    shown (slice_set entries c.args.i c.args.entry) _ _ _ _ c.insert.ensures c.in-Ok.ensures.items (pushed_kept entries support numbers kept c.args.i c.args.entry within c.requires.positive c.requires.narrow following)
     ∙ ap (λ (es : List ℕ). slice_set es c.args.i c.args.entry) c.self.view_is

@@ -2,8 +2,8 @@
 use Rattle.std.proofs.Common.{rules, arith, sym, ◌<◌, ◌^◌, ◌≡◌, None}
 use Rattle.certificates.specs.Words.{number_in}
 use Rattle.certificates.proofs.DecimalTexts.{number_none, number_outside, number_read}
-use Rattle.certificates.proofs.numbers.number.Goals as goal
-use Rattle.certificates.proofs.numbers.number.Goals.{else-least-number-via-then-least-number+else-number-limit, else-least-number-via-else-least-number}
+use Rattle.certificates.proofs.numbers.read_number.Goals as goal
+use Rattle.certificates.proofs.numbers.read_number.Goals.{else-least-number-via-then-least-number+else-number-limit, else-least-number-via-else-least-number}
 
 pub returns-in_err-number-clause-value : goal.returns-in_err-number-clause-value
 returns-in_err-number-clause-value c =
