@@ -3,10 +3,7 @@ ghost use Rattle.certificates.specs.Lines.{amount_in, place_in, term_in};
 ghost use Rattle.certificates.specs.Words.{number_in};
 
 use crate::words::{past, split};
-use net_values::{MAX_PLACES, read_decimal};
-
-/// What amounts are below: 2^127.
-const WIDE: u128 = 0x8000_0000_0000_0000_0000_0000_0000_0000;
+use net_values::{MAX_PLACES, MAX_TOKENS, read_decimal};
 
 /// The number that the text is, from the least to below the limit.
 fn read_number(least: u128, limit: u128, text: &[u8]) -> Option<u128>
@@ -42,7 +39,7 @@ pub(crate) fn flow_number(text: &[u8]) -> Option<u32>
 pub(crate) fn amount(least: u128, text: &[u8]) -> Option<i128>
     ensures { result ≡ amount_in least text.now }
 {
-    let amount = read_number(least, WIDE, text)?;
+    let amount = read_number(least, MAX_TOKENS + 1, text)?;
     Some(amount as i128)
 }
 

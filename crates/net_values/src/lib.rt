@@ -35,7 +35,8 @@ pub use flat_net::FlatNet;
 pub use laws::strictly_ascending_lists_are_one;
 pub use limits::{
     MAX_ARCS, MAX_ENTRIES, MAX_ID_BYTES, MAX_INPUT_BYTES, MAX_NAME_BYTES, MAX_NETS,
-    MAX_OPEN_ELEMENTS, MAX_PAGES, MAX_PLACES, MAX_REFERENCES, MAX_TOKEN_BYTES, MAX_TRANSITIONS,
+    MAX_OPEN_ELEMENTS, MAX_PAGES, MAX_PLACES, MAX_REFERENCES, MAX_TOKEN_BYTES, MAX_TOKENS,
+    MAX_TRANSITIONS,
 };
 pub use list::List;
 pub use marking::Marking;

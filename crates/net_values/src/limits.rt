@@ -33,3 +33,6 @@ pub const MAX_ARCS: usize = 65_536;
 
 /// The most entries of a vector, members of a range of a place set, and rows or columns of a matrix.
 pub const MAX_ENTRIES: usize = 4_096;
+
+/// The most tokens of a place, and the largest weight, entry and sum that is told: 2^127 - 1.
+pub const MAX_TOKENS: u128 = i128::MAX as u128;

@@ -1,8 +1,6 @@
 use crate::flat_net::FlatNet;
+use crate::limits::MAX_TOKENS;
 use crate::marking::Marking;
-
-/// The largest number of tokens that a place may have, 2^127 - 1.
-const MOST_TOKENS: u128 = i128::MAX as u128;
 
 /// Why a transition doesn't fire: a place has fewer tokens than the transition takes, or would have
 /// more than 2^127 - 1. The lowest such place is told.
@@ -71,7 +69,7 @@ impl FlatNet {
         let outputs = self.outputs(t);
         for entry in outputs {
             let left = counts[entry.place] - self.pre(entry.place, t);
-            if left + entry.weight > MOST_TOKENS {
+            if left + entry.weight > MAX_TOKENS {
                 return Some(entry.place);
             }
         }

@@ -7,8 +7,8 @@ use Rattle.net_values.proofs.TokenCounts.{nowhere, narrow_everywhere}
 use Rattle.net_values.proofs.Lowest.{lowest_first}
 use Rattle.net_values.proofs.flat_net.FlatNet.overflowing_place.Goals as goal
 
-pub returns-then-left-entry-gt-MOST_TOKENS : goal.returns-then-left-entry-gt-MOST_TOKENS
-returns-then-left-entry-gt-MOST_TOKENS c =
+pub returns-then-left-entry-gt-MAX_TOKENS : goal.returns-then-left-entry-gt-MAX_TOKENS
+returns-then-left-entry-gt-MAX_TOKENS c =
     let net = net_of c.args.self.now in
     let M = slice_index c.args.marking.now in
     let same = λ (q : ℕ). ap (λ (counts : List ℕ). slice_index counts q) c.as_slice-counts.ensures.value in
