@@ -1,5 +1,7 @@
 ghost use Rattle.std.specs.Prelude.{◌+◌, ◌*◌, ◌<◌, ◌^◌, OkIff};
 
+use net_values::MAX_TOKENS;
+
 /// A sum exceeds 2^127 - 1.
 #[derive(Clone, Copy, Debug, PartialEq, Eq)]
 pub struct WideSum;
@@ -9,12 +11,12 @@ pub fn add_product(total: u128, factor: u128, amount: u128) -> Result<u128, Wide
     ensures { OkIff result (total + factor * amount < 2 ^ 127) (total + factor * amount) }
 {
     // Most factors are 0, which this tells without a wide multiplication.
-    if factor == 0 && total <= i128::MAX as u128 {
+    if factor == 0 && total <= MAX_TOKENS {
         return Ok(total);
     }
     let product = factor.checked_mul(amount).ok_or(WideSum)?;
     let sum = total.checked_add(product).ok_or(WideSum)?;
-    if sum > i128::MAX as u128 {
+    if sum > MAX_TOKENS {
         return Err(WideSum);
     }
     Ok(sum)
