@@ -59,6 +59,15 @@ free_front width sums k h under d i inside same =
     let there : (get_or sums i none).column ≡ own.column = sym (ap (λ (o : ColumnSums). o.column) read) ∙ same in
     omega arith
 
+-- so the sums of its column are the next ones
+pub listed_in : (width : ℕ) (sums : List ColumnSums) (k : ℕ) → AreListed width sums → k < length sums → (d : ColumnSums) → sums_in sums (get_or sums k d).column ≡ get_or sums k d
+listed_in width sums k h under d =
+    let own : ColumnSums = get_or sums k d in
+    let none = no_sums own.column in
+    let here : get_or sums k none ≡ own = get_or_default sums k none d under in
+    let column : (get_or sums k none).column ≡ own.column = ap (λ (o : ColumnSums). o.column) here in
+    sums_met sums own.column k (λ i before same. let less = h.ascending i k none before under in omega (arith, less, same, column)) under column ∙ here
+
 pub free_below : (n : ℕ) (sums : List ColumnSums) (j : ℕ) → AreListed n sums → n ≤ j → IsFree sums j
 free_below n sums j h past k under same = let below = h.within k (no_sums j) under in omega arith
 

@@ -1,9 +1,9 @@
 -- What rows carry: one more row, and the rows that stay in a step.
-use Rattle.std.proofs.Common.{refl, sym, subst, ℕ, ◌-◌, ◌<◌, List, [], ◌∷◌, ◌++◌, length, length-append, inl, inr, arith}
+use Rattle.std.proofs.Common.{refl, sym, subst, ℕ, ◌-◌, ◌<◌, List, [], ◌∷◌, ◌++◌, length, length-append, All, inl, inr, arith}
 use Rattle.std.proofs.lemmas.Bool.{cases_lt}
-use Rattle.std.proofs.lemmas.List.{get_or_append_left, get_or-append_right, get_or_push, length_push}
+use Rattle.std.proofs.lemmas.List.{get_or_append_left, get_or-append_right, get_or_default, get_or_push, length_push}
 use Rattle.incidence.specs.Matrix.{Matrix}
-use Rattle.semiflow_elim.specs.Carried.{AreCarried, CarryTheirs, list_of}
+use Rattle.semiflow_elim.specs.Carried.{AreCarried, AreListed, CarryTheirs, list_of}
 use Rattle.semiflow_elim.specs.Elimination.{row_of}
 use Rattle.semiflow_elim.specs.Kept.{AreKept}
 use Rattle.semiflow_elim.specs.declared.signs.RowSums.{RowSums}
@@ -45,6 +45,14 @@ module _ (m : Matrix) (K K' : ℕ → Type 0) (more : (j : ℕ) → K j → K' j
             subst (λ (r : List ℕ). AreCarried m K' r m.columns (list_of (carried ++ joined_carried) a)) (sym (get_or-append_right rows joined (length rows) a [] refl past))
             (subst (AreCarried m K' (row_of joined (a - length rows)) m.columns) (sym (get_or-append_right carried joined_carried (length rows) a [] size past)) (j.each (a - length rows) (omega (arith, under, length-append rows joined))))
       ]
+
+  pub all_listed : All (AreListed m.columns) (carried ++ joined_carried)
+  all_listed a d under =
+      let size = h.size in
+      let joined_size = j.size in
+      let all = length-append rows joined in
+      let all_carried_size = length-append carried joined_carried in
+      subst (AreListed m.columns) (get_or_default (carried ++ joined_carried) a [] d under) (all_carried a (omega (arith, under))).listed
 
   -- those that stay
   pub kept_carried : (sums : List RowSums) (new : List (List ℕ)) (new_carried : List (List ColumnSums)) → AreKept sums (rows ++ joined) (carried ++ joined_carried) new new_carried → CarryTheirs m K' new new_carried

@@ -27,6 +27,7 @@ pub mod CarriedSums
 pub mod Counting
 pub mod Carrying
 pub mod CountedSigns
+pub mod Uncounting
 pub mod Merging
 pub mod Jointly
 pub mod WalkedGcds

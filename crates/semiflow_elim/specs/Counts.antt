@@ -1,5 +1,5 @@
 -- The counts of a column: of how many rows a sum there is wide, positive or negative.
-use Rattle.std.specs.Prelude.{◌≡◌, ℕ, ◌+◌, ◌*◌, ◌-◌, ◌^◌, ◌<◌, ◌==◌, nat_lt, if◌then◌else◌, Bool, List, length, take, count_by, slice_index_or}
+use Rattle.std.specs.Prelude.{◌≡◌, ℕ, ◌+◌, ◌*◌, ◌-◌, ◌^◌, ◌<◌, ◌≤◌, ◌==◌, nat_lt, if◌then◌else◌, Bool, List, length, take, count_by, slice_index_or}
 use Rattle.semiflow_elim.specs.Carried.{sums_in}
 use Rattle.semiflow_elim.specs.declared.carried.ColumnSums.{ColumnSums}
 use Rattle.semiflow_elim.specs.declared.counts.ColumnCounts.{ColumnCounts}
@@ -25,6 +25,16 @@ counted own counts = record {
   negative = counts.negative + (if is_below own then 1 else 0);
 }
 
+-- a row of these sums is one of those that were counted
+pub record IsIncluded (own : ColumnSums) (counts : ColumnCounts) : Type 0 where
+  pub wide : (if is_wide own then 1 else 0) ≤ counts.wide
+  pub positive : (if is_above own then 1 else 0) ≤ counts.positive
+  pub negative : (if is_below own then 1 else 0) ≤ counts.negative
+
+-- so at each column
+abbrev pub AreIncluded : List ColumnSums → List ColumnCounts → Type 0
+AreIncluded sums counts = (j : ℕ) → j < length counts → IsIncluded (sums_in sums j) (counts_of counts j)
+
 -- one more row was counted at each column
 pub record AreCountedIn (old : List ColumnCounts) (sums : List ColumnSums) (new : List ColumnCounts) : Type 0 where
   pub size : length new ≡ length old
@@ -36,6 +46,10 @@ pub record AreCounted (carried : List (List ColumnSums)) (n width : ℕ) (counts
   pub wide : (j : ℕ) → j < width → (counts_of counts j).wide ≡ count_by (λ sums. is_wide (sums_in sums j)) (take n carried)
   pub positive : (j : ℕ) → j < width → (counts_of counts j).positive ≡ count_by (λ sums. is_above (sums_in sums j)) (take n carried)
   pub negative : (j : ℕ) → j < width → (counts_of counts j).negative ≡ count_by (λ sums. is_below (sums_in sums j)) (take n carried)
+
+-- each count over the rows is that over the old ones without that of a row of these sums
+abbrev pub IsUncounted : List (List ColumnSums) → List (List ColumnSums) → List ColumnSums → Type 0
+IsUncounted old new sums = (counts : List ColumnSums → Bool) → count_by counts new + (if counts sums then 1 else 0) ≡ count_by counts old
 
 -- the candidate count of a column, of so many rows in all
 abbrev pub candidates_at : List ColumnCounts → ℕ → ℕ → ℕ

@@ -1,4 +1,6 @@
 ghost use Rattle.std.specs.Prelude.{◌≡◌, [], ◌∷◌, ◌++◌, ◌<◌, OnOk, OnErr, length};
+ghost use Rattle.semiflow_elim.specs.Carried.{list_of};
+ghost use Rattle.semiflow_elim.specs.Counts.{IsUncounted};
 ghost use Rattle.semiflow_elim.specs.Kept.{IsDropped};
 
 use crate::carried::ColumnSums;
@@ -60,6 +62,7 @@ impl CarriedRows {
         requires sums { i < length self.old.sums.items }
         ensures vectors { IsDropped self.old.vectors.items self.new.vectors.items i }
         ensures sums { IsDropped self.old.sums.items self.new.sums.items i }
+        ensures counted { IsUncounted self.old.sums.items self.new.sums.items (list_of self.old.sums.items i) }
     {
         let _vector = self.vectors.swap_remove(i);
         let _sums = self.sums.swap_remove(i);

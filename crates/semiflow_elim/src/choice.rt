@@ -5,15 +5,14 @@ ghost use Rattle.incidence.specs.Tables.{matrix_of};
 ghost use Rattle.semiflow_elim.specs.Bases.{in_set};
 ghost use Rattle.semiflow_elim.specs.Carried.{CarryTheirs};
 ghost use Rattle.semiflow_elim.specs.Choices.{IsBest, NoneWide, IsFirstCounted};
-ghost use Rattle.semiflow_elim.specs.Counts.{candidates_at, counts_of};
+ghost use Rattle.semiflow_elim.specs.Counts.{AreCounted, candidates_at, counts_of};
 ghost use Rattle.semiflow_elim.specs.Elimination.{AreNarrowOutside, FailsBy, IsChosen, candidate_count};
 
 use crate::carried_rows::CarriedRows;
-use crate::counts::{ColumnCounts, count_signs};
+use crate::counts::ColumnCounts;
 use crate::fault::ElimFault;
 use incidence::Incidence;
 use net_values::PlaceSet;
-use std::alloc::Global;
 
 /// A column with the number of its candidates.
 #[derive(Clone, Copy)]
@@ -22,30 +21,28 @@ pub(crate) struct Choice {
     pub count: u64,
 }
 
-/// The column outside a set with the fewest candidates, the lowest of these. `WideSum` comes with the lowest
+/// The column outside a set with the fewest candidates, the lowest of these, by the counts of the columns. `WideSum` comes with the lowest
 /// column outside the set at which a sum of a row exceeds 2^127 - 1.
 pub(crate) fn chosen_column(
-    alloc: Global,
     matrix: &Incidence,
     taken: &PlaceSet,
     rows: &CarriedRows,
+    counts: &[ColumnCounts],
 ) -> Result<Choice, ElimFault>
     requires columns { length taken.now ≡ (matrix_of matrix.now).columns }
     requires left { (j : ℕ) × (j < length taken.now) × (has taken.now j ≡ false) }
     requires carried { CarryTheirs (matrix_of matrix.now) (in_set taken.now) rows.now.vectors.items rows.now.sums.items }
+    requires counted { AreCounted rows.now.sums.items (length rows.now.sums.items) (matrix_of matrix.now).columns counts.now }
     requires few { length rows.now.vectors.items < 2 ^ 32 }
     ensures chosen { IfOk result (λ choice.
         IsChosen (matrix_of matrix.now) (in_set taken.now) rows.now.vectors.items choice.column) }
     ensures count { IfOk result (λ choice.
         choice.count ≡ candidate_count (matrix_of matrix.now) choice.column rows.now.vectors.items) }
     ensures narrow { OnOk result (AreNarrowOutside (matrix_of matrix.now) (in_set taken.now) rows.now.vectors.items) }
-    ensures fails { (budget : ℕ) → IfErr result (λ fault. (fault ≡ ElimFault.NoMemory) ⊎
+    ensures fails { (budget : ℕ) → IfErr result (λ fault.
         FailsBy (matrix_of matrix.now) budget (in_set taken.now) rows.now.vectors.items fault) }
 {
-    let Ok(counts) = count_signs(alloc, matrix.columns(), rows.sums.as_slice()) else {
-        return Err(ElimFault::NoMemory);
-    };
-    match best_of(counts.as_slice(), taken, rows.sums.len()) {
+    match best_of(counts, taken, rows.sums.len()) {
         Ok(choice) => Ok(choice),
         Err(column) => Err(ElimFault::WideSum(column)),
     }

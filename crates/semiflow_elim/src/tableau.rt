@@ -6,6 +6,7 @@ ghost use Rattle.semiflow_elim.specs.Added.{IsAdded};
 ghost use Rattle.semiflow_elim.specs.Bases.{IsBasis, AreMinimal, AreUnits, in_set};
 ghost use Rattle.semiflow_elim.specs.Candidates.{signs_total};
 ghost use Rattle.semiflow_elim.specs.Carried.{CarryTheirs};
+ghost use Rattle.semiflow_elim.specs.Counts.{AreCounted};
 ghost use Rattle.semiflow_elim.specs.Elimination.{Passes, FailsBy};
 ghost use Rattle.semiflow_elim.specs.Tableaus.{size_of};
 
@@ -13,6 +14,7 @@ use crate::candidates::join_all;
 use crate::carried::{ColumnSums, unit_sums};
 use crate::carried_rows::CarriedRows;
 use crate::choice::chosen_column;
+use crate::counts::{ColumnCounts, count_rows, count_signs};
 use crate::fault::ElimFault;
 use crate::kept::keep_zeros;
 use crate::row_arithmetic::RowFault;
@@ -31,6 +33,7 @@ pub struct Tableau<'m> {
     taken: PlaceSet,
     done: usize,
     rows: CarriedRows,
+    counts: Vec<ColumnCounts>,
 }
 
 impl<'m> Model for Tableau<'m> {
@@ -44,7 +47,7 @@ impl<'m> Model for Tableau<'m> {
       tables = t.matrix.now;
       taken = t.taken;
       rows = t.rows.vectors.items;
-    } t.done t.rows.sums.items };
+    } t.done t.rows.sums.items t.counts.items };
 }
 
 impl<'m> Tableau<'m> {
@@ -57,12 +60,14 @@ impl<'m> Tableau<'m> {
         let taken = PlaceSet::new(alloc, matrix.columns())?;
         let vectors = unit_rows(alloc, matrix.rows())?;
         let sums = all_sums(alloc, matrix, &taken, vectors.as_slice())?;
+        let counts = count_signs(alloc, matrix.columns(), sums.as_slice())?;
         Ok(Tableau {
             matrix,
             alloc,
             taken,
             done: 0,
             rows: CarriedRows { vectors, sums },
+            counts,
         })
     }
 
@@ -98,7 +103,14 @@ impl<'m> Tableau<'m> {
         ensures fails { IfErr result (λ fault. (fault ≡ ElimFault.NoMemory) ⊎
             FailsBy (matrix_of self.old.tables) rows (in_set self.old.taken) self.old.rows fault) }
     {
-        let column = take_column(self.alloc, self.matrix, &self.taken, &mut self.rows, rows)?;
+        let column = take_column(
+            self.alloc,
+            self.matrix,
+            &self.taken,
+            &mut self.rows,
+            self.counts.as_mut_slice(),
+            rows,
+        )?;
         self.taken.insert(column);
         self.done += 1;
         Ok(())
@@ -117,41 +129,48 @@ impl<'m> Tableau<'m> {
 }
 
 /// Takes a column, which it gives: the combinations of the adjacent pairs are added, and of the others the zero
-/// rows stay.
+/// rows stay. The counts of the columns follow the rows.
 fn take_column(
     alloc: Global,
     matrix: &Incidence,
     taken: &PlaceSet,
     rows: &mut CarriedRows,
+    counts: &mut [ColumnCounts],
     budget: u32,
 ) -> Result<usize, ElimFault>
     requires columns { length taken.now ≡ (matrix_of matrix.now).columns }
     requires left { (j : ℕ) × (j < length taken.now) × (has taken.now j ≡ false) }
     requires basis { IsBasis (matrix_of matrix.now) (in_set taken.now) rows.old.vectors.items }
     requires carried { CarryTheirs (matrix_of matrix.now) (in_set taken.now) rows.old.vectors.items rows.old.sums.items }
+    requires counted { AreCounted rows.old.sums.items (length rows.old.sums.items) (matrix_of matrix.now).columns counts.old }
     requires few { length rows.old.vectors.items < 2 ^ 32 }
     ensures basis { IfOk result (λ column.
         IsBasis (matrix_of matrix.now) (in_set (slice_set taken.now column true)) rows.new.vectors.items) }
     ensures carried { IfOk result (λ column.
         CarryTheirs (matrix_of matrix.now) (in_set (slice_set taken.now column true)) rows.new.vectors.items rows.new.sums.items) }
     ensures few { OnOk result (length rows.new.vectors.items < 2 ^ 32) }
+    ensures counted { OnOk result
+        (AreCounted rows.new.sums.items (length rows.new.sums.items) (matrix_of matrix.now).columns counts.new) }
     ensures passes { IfOk result (λ column.
         Passes (matrix_of matrix.now) budget (in_set taken.now) rows.old.vectors.items column) }
     ensures same_vectors { OnErr result (rows.new.vectors.items ≡ rows.old.vectors.items) }
     ensures same_sums { OnErr result (rows.new.sums.items ≡ rows.old.sums.items) }
+    ensures same_counts { OnErr result (counts.new ≡ counts.old) }
     ensures fails { IfErr result (λ fault. (fault ≡ ElimFault.NoMemory) ⊎
         FailsBy (matrix_of matrix.now) budget (in_set taken.now) rows.old.vectors.items fault) }
 {
-    let added = added_rows(alloc, matrix, taken, rows, budget)?;
+    let added = added_rows(alloc, matrix, taken, rows, counts, budget)?;
     let Added {
         column,
         sums,
         joined,
     } = added;
+    let before = rows.sums.len();
     if rows.append(joined).is_err() {
         return Err(ElimFault::NoMemory);
     }
-    keep_zeros(rows, sums.as_slice());
+    count_rows(counts, rows.sums.as_slice(), before);
+    keep_zeros(rows, counts, sums.as_slice());
     Ok(column)
 }
 
@@ -168,12 +187,14 @@ fn added_rows(
     matrix: &Incidence,
     taken: &PlaceSet,
     rows: &CarriedRows,
+    counts: &[ColumnCounts],
     budget: u32,
 ) -> Result<Added, ElimFault>
     requires columns { length taken.now ≡ (matrix_of matrix.now).columns }
     requires left { (j : ℕ) × (j < length taken.now) × (has taken.now j ≡ false) }
     requires basis { IsBasis (matrix_of matrix.now) (in_set taken.now) rows.now.vectors.items }
     requires carried { CarryTheirs (matrix_of matrix.now) (in_set taken.now) rows.now.vectors.items rows.now.sums.items }
+    requires counted { AreCounted rows.now.sums.items (length rows.now.sums.items) (matrix_of matrix.now).columns counts.now }
     requires few { length rows.now.vectors.items < 2 ^ 32 }
     ensures added { IfOk result (λ added.
         IsAdded (matrix_of matrix.now) added.column rows.now.vectors.items added.sums.items added.joined.vectors.items) }
@@ -185,7 +206,7 @@ fn added_rows(
     ensures fails { IfErr result (λ fault. (fault ≡ ElimFault.NoMemory) ⊎
         FailsBy (matrix_of matrix.now) budget (in_set taken.now) rows.now.vectors.items fault) }
 {
-    let choice = chosen_column(alloc, matrix, taken, rows)?;
+    let choice = chosen_column(matrix, taken, rows, counts)?;
     let column = choice.column;
     if choice.count > u64::from(budget) {
         return Err(ElimFault::RowBudget(column, choice.count));

@@ -33,7 +33,7 @@ all_read rows slice sums read joined slice_is read_is few =
 pub returns-in_err-choice-clause-fails : goal.returns-in_err-choice-clause-fails
 returns-in_err-choice-clause-fails c =
     let p = err_from_is_err_and c.from_residual.result c.from_residual.ensures.1 in
-    rw (p.1, p.2) (c.in_err-choice.ensures.fails c.args.budget)
+    rw (p.1, p.2) (inr (c.in_err-choice.ensures.fails c.args.budget))
 
 pub returns-then-choice-from-clause-fails : goal.returns-then-choice-from-clause-fails
 returns-then-choice-from-clause-fails c =
