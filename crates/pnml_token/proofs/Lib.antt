@@ -12,6 +12,7 @@ pub mod Windows
 pub mod Endings
 pub mod EmptyTags
 pub mod ScanLaws
+pub mod ScanRuns
 pub mod SpelledEnds
 pub mod StreamLaws
 pub mod HeldLaws

@@ -1,5 +1,6 @@
 -- Where a token can end, told byte by byte.
-use Rattle.std.specs.Prelude.{◌≡◌, ℕ, suc, Bool, true, false, ◌==◌, ◌||◌, if◌then◌else◌, List, [], ◌∷◌, Option, Some}
+use Rattle.std.specs.Prelude.{◌≡◌, ℕ, suc, Bool, true, false, ◌==◌, ◌||◌, if◌then◌else◌, not, List, [], ◌∷◌, Option, Some, None}
+use Rattle.std.specs.List.{prefix_len}
 use Rattle.pnml_grammar.specs.declared.token.Token.{Token}
 use Rattle.pnml_grammar.specs.Runs.{◌>>=◌}
 use Rattle.pnml_grammar.specs.Reading.{token_from}
@@ -29,6 +30,20 @@ next Tag byte = in_tag byte
 next (Value quote) byte = if byte == quote then Tag else Value quote
 next Ended byte = Ended
 next EndedBefore byte = EndedBefore
+
+-- the byte that changes what is told, where any other leaves it
+abbrev pub awaited : Scan → Option ℕ
+awaited Characters = Some 60
+awaited Comment = Some 45
+awaited Section = Some 93
+awaited Instruction = Some 63
+awaited (Value quote) = Some quote
+awaited _ = None
+
+-- how many bytes at the front leave it
+abbrev pub length_to : Option ℕ → List ℕ → ℕ
+length_to None bytes = 0
+length_to (Some byte) bytes = prefix_len (λ other. not (other == byte)) bytes
 
 -- after these bytes
 abbrev pub scanned : Scan → List ℕ → Scan

@@ -2,12 +2,13 @@ ghost use Rattle.std.specs.Prelude.{◌≡◌, ◌+◌, ◌<◌, ◌≤◌, [], 
 ghost use Rattle.pnml_grammar.specs.Tokens.{Occurs};
 ghost use Rattle.pnml_token.specs.Steps.{IfNoToken};
 ghost use Rattle.pnml_token.specs.Gives.{Gives};
-ghost use Rattle.pnml_token.specs.Scans.{reached, first_token};
+ghost use Rattle.pnml_token.specs.Scans.{reached, first_token, length_to};
 ghost use Rattle.pnml_token.specs.Streams.{Settles, IsUnsettled, HasNoToken, IsHopeless, TellsReason};
 ghost use Rattle.net_values.specs.declared.limits.TheConstants.{MAX_TOKEN_BYTES};
 
 use crate::fed::Fed;
 use crate::miss::Miss;
+use crate::runs::length_before;
 use crate::scan::Scan;
 use crate::token::token_of;
 use net_values::{MAX_TOKEN_BYTES, NoMemory};
@@ -113,13 +114,30 @@ fn end_within(scan: Scan, piece: &[u8]) -> (Scan, usize)
     ensures inside { result.1 ≤ length piece.now }
 {
     let mut scan = scan;
-    for index in 0..piece.len() {
+    let mut index = 0;
+    'bytes: while index < piece.len() {
+        index += length_to(scan.awaited(), &piece[index..]);
+        if index == piece.len() {
+            return (scan, index);
+        }
         scan = scan.next(piece[index]);
         if scan.has_ended() {
             return (scan, index + scan.own_bytes());
         }
+        index += 1;
     }
-    (scan, piece.len())
+    (scan, index)
+}
+
+/// How many bytes come before the one that is awaited.
+fn length_to(awaited: Option<u8>, bytes: &[u8]) -> usize
+    ensures length { result ≡ length_to awaited bytes.now }
+    ensures inside { result ≤ length bytes.now }
+{
+    match awaited {
+        Some(byte) => length_before(byte, bytes),
+        None => 0,
+    }
 }
 
 /// The token at the front of the bytes, which are let go with their room kept.

@@ -1,11 +1,13 @@
-ghost use Rattle.std.specs.Prelude.{◌≡◌, IsTrue, true};
+ghost use Rattle.std.specs.Prelude.{◌≡◌, ◌↔◌, IsTrue, true};
 ghost use Rattle.std.specs.List.{list_all};
+ghost use Rattle.net_values.specs.Characters.{IsLegalText};
 ghost use Rattle.pnml_grammar.specs.Reading.{is_legal, is_spelling};
 ghost use Rattle.pnml_token.specs.ByteClasses.{is_plain_byte};
 
-use crate::runs::PART_BYTES;
+use crate::runs::{ByteClass, PART_BYTES, has_all};
 use net_values::MAX_TOKEN_BYTES;
 use pnml_grammar::is_legal_text;
+use simdutf8::compat::from_utf8;
 
 /// Whether the bytes are few enough for a spelling, and UTF-8 of legal characters.
 #[tactic(auto, unfolding(pnml_grammar::specs::Reading::is_spelling))]
@@ -71,8 +73,15 @@ fn is_plain_byte(byte: u8) -> bool
 fn are_legal(bytes: &[u8]) -> bool
     ensures { result ≡ is_legal bytes.now }
 {
-    match std::str::from_utf8(bytes) {
-        Ok(text) => is_legal_text(text),
+    match from_utf8(bytes) {
+        Ok(text) => is_text_of_legal(text),
         Err(_) => false,
     }
+}
+
+/// Whether each character of the text is legal. Most texts are told by their bytes.
+fn is_text_of_legal(text: &str) -> bool
+    ensures { IsTrue result ↔ IsLegalText text.now }
+{
+    has_all(ByteClass::Common, text.as_bytes()) || is_legal_text(text)
 }

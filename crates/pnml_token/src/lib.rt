@@ -22,7 +22,7 @@ mod values;
 
 pub use empty_tags::past_empty_tag;
 pub use fed::Fed;
-pub use runs::{is_space, past_space};
+pub use runs::{is_space, is_white, past_space};
 pub use token::{Step, TokenFault, token_at};
 pub use tokens::Tokens;
 

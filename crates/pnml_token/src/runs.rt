@@ -1,4 +1,4 @@
-ghost use Rattle.std.specs.Prelude.{◌≡◌, codes, is_some, option_copied, option_map};
+ghost use Rattle.std.specs.Prelude.{◌≡◌, ◌==◌, not, codes, is_some, option_copied, option_map};
 ghost use Rattle.std.specs.List.{list_all, prefix_len};
 ghost use Rattle.pnml_grammar.specs.Characters.{is_space};
 ghost use Rattle.pnml_grammar.specs.Names.{is_name_start};
@@ -29,6 +29,9 @@ pub(crate) enum ByteClass {
     /// What a value copies: no carriage return and no reference, and no other white space but spaces where
     /// white space becomes spaces.
     Plain(bool),
+    /// What only legal characters have in UTF-8: no control character but three, and no `#xEF`, with which the
+    /// characters begin that aren't legal beyond ASCII.
+    Common,
 }
 
 /// The first bytes of the class, and the bytes after them.
@@ -65,6 +68,28 @@ pub(crate) fn long_run_length(class: ByteClass, bytes: &[u8]) -> usize
     length + run_length(class, rest)
 }
 
+/// Whether the class has all bytes, of which many are compared at once.
+pub(crate) fn has_all(class: ByteClass, bytes: &[u8]) -> bool
+    ensures { result ≡ list_all (in_class class) bytes.now }
+{
+    let mut rest = bytes;
+    'parts: while rest.len() >= PART_BYTES {
+        let (part, after) = rest.split_at(PART_BYTES);
+        if !are_all(class, part) {
+            return false;
+        }
+        rest = after;
+    }
+    are_all(class, rest)
+}
+
+/// White space only.
+pub fn is_white(bytes: &[u8]) -> bool
+    ensures { result ≡ list_all is_space bytes.now }
+{
+    has_all(ByteClass::Space, bytes)
+}
+
 /// Whether the class has all bytes of a part.
 pub(crate) fn are_all(class: ByteClass, part: &[u8]) -> bool
     ensures { result ≡ list_all (in_class class) part.now }
@@ -87,6 +112,7 @@ fn has(class: ByteClass, byte: u8) -> bool
         ByteClass::Reference => byte.is_ascii_alphanumeric() || byte == b'#',
         ByteClass::Line => byte != b'\r',
         ByteClass::Plain(spaces) => is_plain(spaces, byte),
+        ByteClass::Common => is_common(byte),
     }
 }
 
@@ -108,6 +134,12 @@ fn is_plain(spaces: bool, byte: u8) -> bool
     ensures { result ≡ in_class (ByteClass.Plain spaces) byte }
 {
     byte != b'\r' && byte != b'&' && !(spaces && (byte == b'\t' || byte == b'\n'))
+}
+
+fn is_common(byte: u8) -> bool
+    ensures { result ≡ in_class ByteClass.Common byte }
+{
+    (32 <= byte || byte == b'\n' || byte == b'\t' || byte == b'\r') && byte != 0xEF
 }
 
 /// `S?`: what follows the white space at the front.
@@ -181,7 +213,14 @@ pub(crate) fn split_markup(bytes: &[u8]) -> (&[u8], &[u8])
 fn text_length(bytes: &[u8]) -> usize
     ensures { result ≡ prefix_len is_text_byte bytes.now }
 {
-    memchr(b'<', bytes).unwrap_or(bytes.len())
+    length_before(b'<', bytes)
+}
+
+/// How many bytes come before the first one like this.
+pub(crate) fn length_before(wanted: u8, bytes: &[u8]) -> usize
+    ensures { result ≡ prefix_len (λ byte. not (byte == wanted)) bytes.now }
+{
+    memchr(wanted, bytes).unwrap_or(bytes.len())
 }
 
 /// `Char* - (Char* part Char*)`, then the part: what comes before its first offset, and after it.

@@ -1,5 +1,5 @@
 ghost use Rattle.std.specs.Prelude.{◌≡◌, ◌≤◌, ◌==◌, if◌then◌else◌};
-ghost use Rattle.pnml_token.specs.Scans.{in_tag as the_step_in_a_tag, next as the_next, has_ended, own_bytes};
+ghost use Rattle.pnml_token.specs.Scans.{in_tag as the_step_in_a_tag, next as the_next, awaited, has_ended, own_bytes};
 
 /// What the bytes of a token so far tell of its end. A token has ended where no other byte can be its last; bytes
 /// that spell no token may end anywhere.
@@ -82,6 +82,20 @@ impl Scan {
             Scan::Value(quote) => on(byte, quote, Scan::Tag, self),
             Scan::CommentDashes | Scan::Ended => Scan::Ended,
             Scan::EndedBefore => Scan::EndedBefore,
+        }
+    }
+
+    /// The byte that changes what is told, where any other leaves it.
+    pub(crate) fn awaited(self) -> Option<u8>
+        ensures { result ≡ awaited self }
+    {
+        match self {
+            Scan::Characters => Some(b'<'),
+            Scan::Comment => Some(b'-'),
+            Scan::Section => Some(b']'),
+            Scan::Instruction => Some(b'?'),
+            Scan::Value(quote) => Some(quote),
+            _ => None,
         }
     }
 

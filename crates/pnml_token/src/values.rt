@@ -8,7 +8,7 @@ ghost use Rattle.pnml_token.specs.Pieces.{meant, past_feed, IsPieceOf, IsMissOf,
 
 use crate::miss::Miss;
 use crate::references::reference_of;
-use crate::runs::{ByteClass, long_run_length};
+use crate::runs::{ByteClass, PART_BYTES, long_run_length};
 use net_values::{NoMemory, Text};
 use std::alloc::Global;
 
@@ -177,6 +177,20 @@ pub(crate) fn text_of(alloc: Global, bytes: &[u8]) -> Result<Text, Miss>
 /// The bytes as text, where they are UTF-8.
 #[tactic(auto, unfolding(pnml_grammar::specs::Resolving::text_of))]
 pub(crate) fn text_in(bytes: &[u8]) -> Result<&str, Miss>
+    ensures { Gives (λ text. text.now) result (text_of bytes.now) }
+{
+    if bytes.len() < PART_BYTES {
+        return short_text_in(bytes);
+    }
+    match simdutf8::compat::from_utf8(bytes) {
+        Ok(text) => Ok(text),
+        Err(_) => Err(Miss::NoToken),
+    }
+}
+
+/// The same of bytes that are too few for many to be tested at once.
+#[tactic(auto, unfolding(pnml_grammar::specs::Resolving::text_of))]
+fn short_text_in(bytes: &[u8]) -> Result<&str, Miss>
     ensures { Gives (λ text. text.now) result (text_of bytes.now) }
 {
     match std::str::from_utf8(bytes) {

@@ -1,7 +1,0 @@
-use Rattle.std.proofs.Common.{◌∙◌}
-use Rattle.memchr.specs.Find.{is_byte}
-use Rattle.pnml_token.proofs.Prefixes.{sought_prefix}
-use Rattle.pnml_token.proofs.runs.text_length.Goals as goal
-
-pub returns : goal.returns
-returns c = c.unwrap_or.ensures ∙ sought_prefix (is_byte 60) c.args.bytes.now c.memchr.result c.memchr.ensures
