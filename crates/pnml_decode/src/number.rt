@@ -6,14 +6,7 @@ ghost use Rattle.pnml_grammar.specs.Numerals.{is_digit, is_white, numeral, numbe
 ghost use Rattle.pnml_decode.specs.Numbers.{number_of, narrow_if_any};
 
 use pnml_grammar::Context;
-use pnml_token::{is_space, past_space};
-
-/// White space only.
-pub(crate) fn is_white(bytes: &[u8]) -> bool
-    ensures { result ≡ is_white bytes.now }
-{
-    bytes.iter().all(|byte| is_space(*byte))
-}
+use pnml_token::{is_white, past_space};
 
 /// The number of an initial marking, or of an inscription, which is at least 1.
 #[tactic(auto, unfolding(pnml_grammar::specs::Numerals::number_in))]

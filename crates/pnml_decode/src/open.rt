@@ -8,10 +8,11 @@ ghost use Rattle.pnml_decode.specs.Views.{Gains, Receives, frame, given, given_b
 
 use crate::content::{Content, has_some};
 use crate::nodes;
-use crate::number::{is_white, number_in};
+use crate::number::number_in;
 use crate::reader_fault::ReaderFault;
 use net_values::{Document, Item, MAX_NAME_BYTES, NoMemory, Text};
 use pnml_grammar::{Attributes, Context, Counted, Reason};
+use pnml_token::is_white;
 use std::alloc::Global;
 
 /// An open element: what is in it, its tag, and what its whole children have given.
