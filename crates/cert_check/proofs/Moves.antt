@@ -4,6 +4,8 @@ use Rattle.std.proofs.lemmas.Bool.{cases_eq}
 use Rattle.net_values.specs.Net.{Net}
 use Rattle.net_values.specs.PlaceSets.{has}
 use Rattle.closed_sets.specs.ClosedSets.{IsGreatestSiphon}
+use Rattle.closed_sets.specs.Commoner.{IsInitiallyEmpty}
+use Rattle.closed_sets.specs.Opens.{AreLeaving}
 use Rattle.certificates.specs.Conditions.{SiphonClass, all_siphons, without, containing}
 use Rattle.cert_check.specs.declared.walk.Level.{Level}
 use Rattle.cert_check.specs.declared.walk.Walk.{Walk}
@@ -54,8 +56,12 @@ module _ (net : Net) (old new : Walk) (way : IsOnWay net old) where
                 | inl same ↦ ap (λ (k : ℕ). length (saved_at new.saved.items k)) same ∙ ap length (saved_here old.saved.items new.saved.items old.depth _ h.saved (let size = way.sizes.count in omega arith)) ∙ way.sizes.live
                 | inr other ↦ ap length (saved_there old.saved.items new.saved.items old.depth e _ h.saved other) ∙ way.sizes.saved e less
               ];
+              leaving = ap length h.leaving ∙ way.sizes.leaving;
+              unmarked = ap length h.unmarked ∙ way.sizes.unmarked;
               trap = h.trap;
             };
+            leaving = subst (λ (set : List Bool). AreLeaving net set new.leaving) (sym h.contained) (subst (AreLeaving net old.contained) (sym h.leaving) way.leaving);
+            unmarked = subst (IsInitiallyEmpty net) (sym h.unmarked) way.unmarked;
             deep = omega arith;
             fresh = λ e less. elim (cases_eq e old.depth) [
               | inl same ↦ subst (IsFresh net after) (sym same) record {
@@ -85,7 +91,7 @@ module _ (net : Net) (old new : Walk) (way : IsOnWay net old) where
         ap (pending_of after) depth ∙ pending,
       )
 
-  pub turned : (d : ℕ) → old.depth ≡ suc d → (level_at before d).contained ≡ false → Turns old new d → IsAt net new × (pending_now old ≡ class_now new ∷ pending_now new)
+  pub turned : (d : ℕ) → old.depth ≡ suc d → (level_at before d).contained ≡ false → Turns net old new d → IsAt net new × (pending_now old ≡ class_now new ∷ pending_now new)
   turned d deep first h =
       let p : ℕ = (level_at before d).place in
       let limit : d < net.places = let most = way.deep in omega arith in
@@ -123,8 +129,12 @@ module _ (net : Net) (old new : Walk) (way : IsOnWay net old) where
               live = ap length h.live ∙ way.sizes.saved d limit;
               count = ap length h.saved ∙ way.sizes.count;
               saved = λ e less. ap (λ (sets : List (List Bool)). length (saved_at sets e)) h.saved ∙ way.sizes.saved e less;
+              leaving = h.size ∙ way.sizes.leaving;
+              unmarked = ap length h.unmarked ∙ way.sizes.unmarked;
               trap = ap length h.trap ∙ way.sizes.trap;
             };
+            leaving = h.leaving;
+            unmarked = subst (IsInitiallyEmpty net) (sym h.unmarked) way.unmarked;
             deep = let most = way.deep in let is = h.depth in omega arith;
             fresh = λ e less. fresh_same net before after e (λ f under. places f (omega arith)) (way.fresh e (let is = h.depth in omega arith));
             contained = λ q under.
@@ -150,7 +160,7 @@ module _ (net : Net) (old new : Walk) (way : IsOnWay net old) where
         had ∙ ap (λ (c : SiphonClass). c ∷ pending_of before d) (sym now) ∙ ap (λ (classes : List SiphonClass). class_now new ∷ classes) (sym pending),
       )
 
-  pub risen : (d : ℕ) → old.depth ≡ suc d → (level_at before d).contained ≡ true → Rises old new d → IsOnWay net new × (pending_now new ≡ pending_now old)
+  pub risen : (d : ℕ) → old.depth ≡ suc d → (level_at before d).contained ≡ true → Rises net old new d → IsOnWay net new × (pending_now new ≡ pending_now old)
   risen d deep second h =
       let limit : d < net.places = let most = way.deep in omega arith in
       let own = way.fresh d (omega arith) in
@@ -170,8 +180,12 @@ module _ (net : Net) (old new : Walk) (way : IsOnWay net old) where
             live = ap length h.live ∙ way.sizes.live;
             count = ap length h.saved ∙ way.sizes.count;
             saved = λ e less. ap (λ (sets : List (List Bool)). length (saved_at sets e)) h.saved ∙ way.sizes.saved e less;
+            leaving = h.size ∙ way.sizes.leaving;
+            unmarked = ap length h.unmarked ∙ way.sizes.unmarked;
             trap = ap length h.trap ∙ way.sizes.trap;
           };
+          leaving = h.leaving;
+          unmarked = subst (IsInitiallyEmpty net) (sym h.unmarked) way.unmarked;
           deep = let is = h.depth in omega arith;
           fresh = λ e less. subst (λ (levels : List Level). IsFresh net levels e) (sym h.levels) (way.fresh e (let is = h.depth in omega arith));
           contained = λ q under.
@@ -203,8 +217,8 @@ pub none_left : (net : Net) (walk : Walk) → IsOnWay net walk → walk.depth �
 none_left net walk way none = subst (IsLeft net walk) (sym (ap (pending_of walk.levels.items) none)) way.sizes
 
 -- before any split
-pub begun : (net : Net) (walk : Walk) (full : List Bool) → HasSizes net.places walk → walk.depth ≡ 0 → walk.empty ≡ false → ((q : ℕ) → q < net.places → has walk.contained q ≡ false) → ((q : ℕ) → q < net.places → has walk.used q ≡ false) → ((q : ℕ) → q < net.places → has full q ≡ true) → IsGreatestSiphon net (has full) (has walk.live) → IsLeft net walk (all_siphons ∷ [])
-begun net walk full sizes none some contained used all live =
+pub begun : (net : Net) (walk : Walk) (full : List Bool) → HasSizes net.places walk → AreLeaving net walk.contained walk.leaving → IsInitiallyEmpty net walk.unmarked → walk.depth ≡ 0 → walk.empty ≡ false → ((q : ℕ) → q < net.places → has walk.contained q ≡ false) → ((q : ℕ) → q < net.places → has walk.used q ≡ false) → ((q : ℕ) → q < net.places → has full q ≡ true) → IsGreatestSiphon net (has full) (has walk.live) → IsLeft net walk (all_siphons ∷ [])
+begun net walk full sizes leaving empty none some contained used all live =
     let class : class_now walk ≡ all_siphons = ap (class_of walk.levels.items) none in (
       record {
         way = record {
@@ -214,6 +228,8 @@ begun net walk full sizes none some contained used all live =
           contained = λ q below. contained q below ∙ sym (ap (λ (c : SiphonClass). c.contains q) class);
           used = λ q below. used q below ∙ sym (ap (λ (k : ℕ). used_of walk.levels.items k q) none);
           saved = λ d less. absurd (omega arith);
+          leaving = leaving;
+          unmarked = empty;
         };
         known = known_as net all_siphons (class_now walk) false walk.empty walk.live walk.live class some refl
             (greatest_same net (has full) (allowed_in all_siphons) (has walk.live) all live);

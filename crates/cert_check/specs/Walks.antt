@@ -3,7 +3,10 @@
 use Rattle.std.specs.Prelude.{◌≡◌, ℕ, zero, suc, ◌+◌, ◌<◌, ◌≤◌, ◌==◌, ◌||◌, ◌&&◌, not, List, [], ◌∷◌, Bool, false, true, MatchBool, length, slice_index_or, slice_set}
 use Rattle.net_values.specs.Net.{Net}
 use Rattle.net_values.specs.PlaceSets.{has}
+use Rattle.net_values.specs.declared.limits.TheConstants.{MAX_TRANSITIONS}
 use Rattle.closed_sets.specs.ClosedSets.{IsGreatestSiphon}
+use Rattle.closed_sets.specs.Commoner.{IsInitiallyEmpty}
+use Rattle.closed_sets.specs.Opens.{AreLeaving}
 use Rattle.closed_sets.specs.Kept.{KeepsWithout, LosesWithout}
 use Rattle.certificates.specs.declared.certificate.TreeLine.TheVariants.{Empty}
 use Rattle.certificates.specs.Conditions.{SiphonClass, TreeLineHolds, all_siphons, without, containing}
@@ -62,6 +65,8 @@ pub record HasSizes (places : ℕ) (walk : Walk) : Type 0 where
   pub live : length walk.live ≡ places
   pub count : length walk.saved.items ≡ places
   pub saved : (d : ℕ) → d < places → length (saved_at walk.saved.items d) ≡ places
+  pub leaving : length walk.leaving ≡ MAX_TRANSITIONS
+  pub unmarked : length walk.unmarked ≡ places
   pub trap : length walk.trap ≡ places
 
 -- the place of a split is in the net, and none of the splits above it is at it
@@ -77,6 +82,8 @@ pub record IsOnWay (net : Net) (walk : Walk) : Type 0 where
   pub contained : (q : ℕ) → q < net.places → has walk.contained q ≡ (class_of walk.levels.items walk.depth).contains q
   pub used : (q : ℕ) → q < net.places → has walk.used q ≡ used_of walk.levels.items walk.depth q
   pub saved : (d : ℕ) → d < walk.depth → IsKnown net (class_of walk.levels.items d) (level_at walk.levels.items d).empty (saved_at walk.saved.items d)
+  pub leaving : AreLeaving net walk.contained walk.leaving
+  pub unmarked : IsInitiallyEmpty net walk.unmarked
 
 abbrev pub class_now : Walk → SiphonClass
 class_now walk = class_of walk.levels.items walk.depth
@@ -109,10 +116,12 @@ pub record Enters (net : Net) (old new : Walk) (p : ℕ) : Type 0 where
   pub saved : new.saved.items ≡ slice_set old.saved.items old.depth old.live
   pub size : length new.live ≡ net.places
   pub known : KnowsWithout net old.contained p old.empty old.live new.empty new.live
+  pub leaving : new.leaving ≡ old.leaving
+  pub unmarked : new.unmarked ≡ old.unmarked
   pub trap : length new.trap ≡ net.places
 
 -- it goes from the first side of its deepest split to the second
-pub record Turns (old new : Walk) (d : ℕ) : Type 0 where
+pub record Turns (net : Net) (old new : Walk) (d : ℕ) : Type 0 where
   pub depth : new.depth ≡ old.depth
   pub levels : new.levels.items ≡ slice_set old.levels.items d record { place = (level_at old.levels.items d).place; contained = true; empty = (level_at old.levels.items d).empty }
   pub contained : new.contained ≡ slice_set old.contained (level_at old.levels.items d).place true
@@ -120,14 +129,20 @@ pub record Turns (old new : Walk) (d : ℕ) : Type 0 where
   pub saved : new.saved.items ≡ old.saved.items
   pub empty : new.empty ≡ (level_at old.levels.items d).empty
   pub live : new.live ≡ saved_at old.saved.items d
+  pub size : length new.leaving ≡ length old.leaving
+  pub leaving : AreLeaving net new.contained new.leaving
+  pub unmarked : new.unmarked ≡ old.unmarked
   pub trap : new.trap ≡ old.trap
 
 -- it goes up from the second side of its deepest split
-pub record Rises (old new : Walk) (d : ℕ) : Type 0 where
+pub record Rises (net : Net) (old new : Walk) (d : ℕ) : Type 0 where
   pub depth : new.depth ≡ d
   pub levels : new.levels.items ≡ old.levels.items
   pub contained : new.contained ≡ slice_set old.contained (level_at old.levels.items d).place false
   pub used : new.used ≡ slice_set old.used (level_at old.levels.items d).place false
   pub saved : new.saved.items ≡ old.saved.items
   pub live : new.live ≡ old.live
+  pub size : length new.leaving ≡ length old.leaving
+  pub leaving : AreLeaving net new.contained new.leaving
+  pub unmarked : new.unmarked ≡ old.unmarked
   pub trap : new.trap ≡ old.trap

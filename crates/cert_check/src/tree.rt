@@ -9,7 +9,7 @@ use crate::line_checks::Rejected;
 use crate::walk::Walk;
 use crate::walk_moves::{advance, begin, is_empty_class, split};
 use certificates::{TreeLine, TreeLines};
-use closed_sets::has_marked_trap;
+use closed_sets::has_marked_trap_from;
 use net_values::FlatNet;
 
 /// Checks the lines of a tree, each at its class.
@@ -44,7 +44,14 @@ fn step(net: &FlatNet, line: TreeLine, walk: &mut Walk) -> bool
         TreeLine::Empty => pass(net, is_empty_class(net, walk), walk),
         TreeLine::Trap => pass(
             net,
-            has_marked_trap(net, &walk.contained, &mut walk.trap, &mut walk.fallen),
+            has_marked_trap_from(
+                net,
+                &walk.contained,
+                &walk.leaving,
+                &walk.unmarked,
+                &mut walk.trap,
+                &mut walk.fallen,
+            ),
             walk,
         ),
     }

@@ -3,7 +3,7 @@ ghost use Rattle.net_values.specs.declared.limits.TheConstants.{MAX_PLACES};
 ghost use Rattle.cert_check.specs.Walks.{HasSizes};
 
 use closed_sets::Fallen;
-use net_values::{NoMemory, PlaceSet};
+use net_values::{MAX_TRANSITIONS, NoMemory, PlaceSet};
 use std::alloc::Global;
 
 /// A split on the way to a class, and on which side of it the class is: that of the siphons with its place, or of
@@ -18,7 +18,8 @@ pub struct Level {
 /// The way through a tree to the class of the next line: the splits above it, the set that its siphons contain, the
 /// places of the splits, and the greatest siphon that avoids what the class avoids. Where the walk says that the class
 /// is empty, no nonempty siphon belongs to it, and there is nothing to keep. For each split what was kept of its own
-/// class is saved.
+/// class is saved. The transitions that take from the contained set and give nothing back to it are kept too, and the
+/// places without a token.
 #[derive(Drop)]
 pub struct Walk {
     pub levels: Vec<Level>,
@@ -28,6 +29,8 @@ pub struct Walk {
     pub empty: bool,
     pub live: PlaceSet,
     pub saved: Vec<PlaceSet>,
+    pub leaving: PlaceSet,
+    pub unmarked: PlaceSet,
     pub trap: PlaceSet,
     pub fallen: Fallen,
 }
@@ -51,6 +54,8 @@ impl Walk {
             empty: false,
             live: PlaceSet::new(alloc, places)?,
             saved: empty_sets(alloc, places)?,
+            leaving: PlaceSet::new(alloc, MAX_TRANSITIONS)?,
+            unmarked: PlaceSet::new(alloc, places)?,
             trap: PlaceSet::new(alloc, places)?,
             fallen: Fallen::none(),
         })

@@ -2,13 +2,16 @@ ghost use Rattle.std.specs.Prelude.{◌≡◌, [], ◌∷◌, ℕ, ◌<◌, Matc
 ghost use Rattle.net_values.specs.FlatNets.{net_of};
 ghost use Rattle.net_values.specs.PlaceSets.{has};
 ghost use Rattle.closed_sets.specs.ClosedSets.{IsSiphon};
+ghost use Rattle.closed_sets.specs.Opens.{AreLeaving};
 ghost use Rattle.certificates.specs.Conditions.{TreeLineHolds, after_line, all_siphons};
 ghost use Rattle.certificates.specs.declared.certificate.TreeLine.{TreeLine};
 ghost use Rattle.cert_check.specs.Walks.{HasSizes, IsAt, IsLeft, KnowsWithout, Enters, Turns, Rises};
 ghost use Rattle.cert_check.specs.Walks.{class_now, pending_now, level_at, saved_at};
 
 use crate::walk::{Level, Walk};
-use closed_sets::{Fallen, greatest_siphon, keeps_without};
+use closed_sets::{
+    Fallen, find_empty_places, find_leaving, greatest_siphon, keeps_without, put_place,
+};
 use net_values::{FlatNet, PlaceSet};
 
 /// Begins at the class of all siphons.
@@ -19,6 +22,8 @@ pub fn begin(net: &FlatNet, walk: &mut Walk)
     walk.depth = 0;
     clear(&mut walk.contained);
     clear(&mut walk.used);
+    find_leaving(net, &walk.contained, &mut walk.leaving);
+    find_empty_places(net, &mut walk.unmarked);
     walk.empty = false;
     fill(&mut walk.live);
     greatest_siphon(net, &mut walk.live);
@@ -128,20 +133,22 @@ pub fn advance(net: &FlatNet, walk: &mut Walk)
     'levels: while walk.depth > 0 {
         let d = walk.depth - 1;
         if !walk.levels[d].contained {
-            turn(walk, d);
+            turn(net, walk, d);
             return;
         }
-        rise(walk, d);
+        rise(net, walk, d);
     }
 }
 
 /// Goes from the first side of split `d`, the deepest, to the second.
-fn turn(walk: &mut Walk, d: usize)
+fn turn(net: &FlatNet, walk: &mut Walk, d: usize)
     requires level { d < length walk.old.levels.items }
     requires saved { d < length walk.old.saved.items }
-    requires place { (level_at walk.old.levels.items d).place < length walk.old.contained }
+    requires place { (level_at walk.old.levels.items d).place < (net_of net.now).places }
+    requires contained { length walk.old.contained ≡ (net_of net.now).places }
+    requires leaving { AreLeaving (net_of net.now) walk.old.contained walk.old.leaving }
     requires live { length walk.old.live ≡ length (saved_at walk.old.saved.items d) }
-    ensures { Turns walk.old walk.new d }
+    ensures { Turns (net_of net.now) walk.old walk.new d }
 {
     let Level { place, empty, .. } = walk.levels[d];
     walk.levels[d] = Level {
@@ -149,20 +156,22 @@ fn turn(walk: &mut Walk, d: usize)
         contained: true,
         empty,
     };
-    walk.contained.insert(place);
+    put_place(net, &mut walk.contained, &mut walk.leaving, place, true);
     walk.empty = empty;
     walk.live.copy_from(&walk.saved[d]);
 }
 
 /// Goes up from the second side of split `d`, the deepest.
-fn rise(walk: &mut Walk, d: usize)
+fn rise(net: &FlatNet, walk: &mut Walk, d: usize)
     requires level { d < length walk.old.levels.items }
-    requires contained { (level_at walk.old.levels.items d).place < length walk.old.contained }
+    requires place { (level_at walk.old.levels.items d).place < (net_of net.now).places }
+    requires contained { length walk.old.contained ≡ (net_of net.now).places }
+    requires leaving { AreLeaving (net_of net.now) walk.old.contained walk.old.leaving }
     requires used { (level_at walk.old.levels.items d).place < length walk.old.used }
-    ensures { Rises walk.old walk.new d }
+    ensures { Rises (net_of net.now) walk.old walk.new d }
 {
     let place = walk.levels[d].place;
-    walk.contained.remove(place);
+    put_place(net, &mut walk.contained, &mut walk.leaving, place, false);
     walk.used.remove(place);
     walk.depth = d;
 }

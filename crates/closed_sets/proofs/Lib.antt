@@ -14,3 +14,4 @@ pub mod Traps
 pub mod Unions
 pub mod MarkedTraps
 pub mod NeededPlaces
+pub mod LeavingSets

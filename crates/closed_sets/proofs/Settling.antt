@@ -85,7 +85,7 @@ loses_earlier net guard first s l falling lost = record {
   lost = λ S siphon within. lost.lost S siphon (falling.shrinks.keeps S siphon within);
 }
 
-contains_none : (q : ℕ) → Contains [] q → ⊥
+pub contains_none : (q : ℕ) → Contains [] q → ⊥
 contains_none q some = omega (arith, some.1)
 
 -- none is left on the list

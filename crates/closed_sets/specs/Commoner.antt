@@ -1,6 +1,7 @@
 -- Commoner's condition (M. Hack, Analysis of production schemata by Petri nets, MIT, 1972; T. Murata, Petri
 -- nets: properties, analysis and applications, Proceedings of the IEEE 77, 1989).
 use Rattle.std.specs.Prelude.{◌≡◌, ℕ, ◌<◌, ◌≤◌, ◌==◌, Bool, IsTrue, ◌&&◌, nat_lt, List}
+use Rattle.net_values.specs.PlaceSets.{has}
 use Rattle.net_values.specs.Net.{Net}
 use Rattle.net_values.specs.TokenGame.{Reach, IsReachable, IsDead}
 use Rattle.closed_sets.specs.ClosedSets.{any_below, IsSiphon, IsTrap, IsWithin, IsNonempty}
@@ -43,6 +44,10 @@ TrapsStayMarked net = (S : ℕ → Bool) (M M' : ℕ → ℕ) (ts : List ℕ) �
 -- the places without a token
 abbrev pub empty_places : (ℕ → ℕ) → ℕ → Bool
 empty_places M p = M p == 0
+
+-- the set is that of the places without a token at the initial marking
+abbrev pub IsInitiallyEmpty : Net → List Bool → Type 0
+IsInitiallyEmpty net set = (p : ℕ) → p < net.places → has set p ≡ empty_places net.initial p
 
 -- at a dead marking of an ordinary net with a transition the empty places are a nonempty siphon
 abbrev pub DeadEmptiesASiphon : Net → Type 0

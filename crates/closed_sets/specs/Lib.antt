@@ -11,4 +11,5 @@ pub mod Kinds
 pub mod Passes
 pub mod Guards
 pub mod Needed
+pub mod Leavers
 pub mod Falling

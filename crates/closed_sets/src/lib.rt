@@ -8,6 +8,7 @@ mod greatest;
 mod guard;
 mod kind;
 mod laws;
+mod leaving;
 mod marked;
 mod minimal;
 mod needed;
@@ -24,7 +25,8 @@ pub use laws::{
     empty_siphons_stay_empty, minimal_siphons_are_in_all, one_place_less_is_left_of_the_greatest,
     traps_are_siphons_reversed, traps_stay_marked, unions_of_siphons_are_siphons,
 };
-pub use marked::has_marked_trap;
+pub use leaving::{find_leaving, put_place};
+pub use marked::{find_empty_places, has_marked_trap, has_marked_trap_from};
 pub use minimal::is_minimal_siphon;
 pub use needed::has_no_smaller_siphon;
 pub use opens::{add_place, find_open};

@@ -5,6 +5,7 @@ ghost use Rattle.closed_sets.specs.ClosedSets.{has_input_in};
 ghost use Rattle.closed_sets.specs.Opens.{AreOpen};
 
 use crate::kind::{Kind, meets};
+use crate::leaving::put;
 use net_values::{FlatNet, PlaceSet};
 
 /// Finds the open transitions of a set of places: those with an output place in it and no input place in it.
@@ -60,17 +61,5 @@ fn close_takers(net: &FlatNet, opens: &mut PlaceSet, p: usize)
     let takers = net.takers(p);
     for t in takers {
         opens.remove(*t);
-    }
-}
-
-/// Puts transition `t` into the set where it is open, and takes it out where it isn't.
-fn put(opens: &mut PlaceSet, t: usize, is_open: bool)
-    requires { t < length opens.old }
-    ensures { opens.new ≡ slice_set opens.old t is_open }
-{
-    if is_open {
-        opens.insert(t);
-    } else {
-        opens.remove(t);
     }
 }

@@ -59,7 +59,7 @@ pub(crate) fn close_all(
 }
 
 /// Takes the output places of transition `t` out of the set where it has no input place in it.
-fn close(
+pub(crate) fn close(
     kind: Kind,
     net: &FlatNet,
     set: &mut PlaceSet,
