@@ -9,3 +9,6 @@ pub mod Resuming
 pub mod Apart
 pub mod Fronts
 pub mod Unique
+pub mod Overlaps
+pub mod SomeReading
+pub mod SomeRun

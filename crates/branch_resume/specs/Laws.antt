@@ -1,5 +1,5 @@
 -- What is read of bytes is one thing; and the runs of a list, or of a tree, are one search.
-use Rattle.std.specs.Prelude.{◌≡◌, ◌≤◌, ℕ, ◌*◌, List, [], ◌∷◌, ◌++◌, All, Bool, length}
+use Rattle.std.specs.Prelude.{◌≡◌, ◌≤◌, ◌⊎◌, ℕ, ◌*◌, List, [], ◌∷◌, ◌++◌, All, Bool, length}
 use Rattle.net_values.specs.Net.{Net}
 use Rattle.net_values.specs.declared.limits.TheConstants.{MAX_PLACES}
 use Rattle.closed_sets.specs.MinimalSets.{IsMinimalSet}
@@ -10,7 +10,7 @@ use Rattle.siphon_branch.specs.Met.{IsListOf}
 use Rattle.branch_resume.specs.declared.resumed.Resumed.{Resumed}
 use Rattle.branch_resume.specs.Tokens.{token_text}
 use Rattle.branch_resume.specs.Pending.{ArePending, ReadsPending, IsMalformedAt, IsRejectedAt}
-use Rattle.branch_resume.specs.Runs.{ArePartedAmong, HasLeaves, IsListOfRuns, IsTreeOfRuns, all_found, all_met, count_pending}
+use Rattle.branch_resume.specs.Runs.{ArePartedAmong, HasLeaves, IsResumed, IsListOfRuns, IsTreeOfRuns, all_found, all_met, count_pending}
 
 -- bytes stand for one list of pending classes, or have one malformed line, or one rejected line, and only one of these
 pub record OnePendingReading (places : ℕ) (bytes : List ℕ) : Type 0 where
@@ -23,6 +23,18 @@ pub record OnePendingReading (places : ℕ) (bytes : List ℕ) : Type 0 where
 
 abbrev pub OneReading : Type 0
 OneReading = (places : ℕ) (bytes : List ℕ) → OnePendingReading places bytes
+
+-- bytes stand for pending classes of the net, or a line of theirs is malformed, or one is rejected
+abbrev pub IsReadOrRefused : ℕ → List ℕ → Type 0
+IsReadOrRefused places bytes =
+    ((classes : List Branch) × ReadsPending places bytes classes) ⊎ (((line : ℕ) × IsMalformedAt bytes line) ⊎ ((line : ℕ) × IsRejectedAt places bytes line))
+
+abbrev pub SomeReading : Type 0
+SomeReading = (places : ℕ) (bytes : List ℕ) → places ≤ MAX_PLACES → IsReadOrRefused places bytes
+
+-- there is a run from any classes of a net, with any number of leaves
+abbrev pub SomeRun : Type 0
+SomeRun = (net : Net) (classes : List Branch) (leaves : ℕ) → (run : Resumed) × IsResumed net leaves classes run
 
 -- the token of pending classes is read as these classes, whatever follows it, and as no others
 pub record IsReadBack (places : ℕ) (classes : List Branch) (bytes : List ℕ) : Type 0 where

@@ -1,13 +1,17 @@
 -- Runs of a search: each meets some of the siphons that are grown in its classes, and leaves the others to further runs.
 use Rattle.std.specs.Prelude.{◌≡◌, ◌≢◌, ◌↔◌, ◌⊎◌, ◌≤◌, ℕ, ◌+◌, List, [], ◌∷◌, ◌++◌, Bool, All, Contains, length}
 use Rattle.std.specs.List.{flat_map}
+use Rattle.std.specs.Cmp.Lexicographic.{slice_cmp}
+use Rattle.std.specs.Ordering.{bool_cmp}
 use Rattle.net_values.specs.Net.{Net}
+use Rattle.net_values.specs.TheList.{IsStrictlyAscending}
 use Rattle.siphon_branch.specs.declared.branch.Branch.{Branch}
 use Rattle.siphon_branch.specs.Classes.{AreDisjoint, HasSize, IsGrownSetIn}
 use Rattle.siphon_branch.specs.Limits.{AreDistinct}
 use Rattle.siphon_branch.specs.Met.{IsListOf}
 use Rattle.siphon_branch.specs.Searches.{InSome, IsMinimalOf}
 use Rattle.branch_resume.specs.declared.resumed.Resumed.{Resumed}
+use Rattle.branch_resume.specs.Pending.{ArePending}
 
 -- a siphon of the net that is grown in one of the classes
 abbrev pub IsGrownInSome : Net → List Branch → List Bool → Type 0
@@ -25,6 +29,13 @@ pub record IsRun (net : Net) (classes : List Branch) (run : Resumed) : Type 0 wh
 pub record HasLeaves (leaves : ℕ) (run : Resumed) : Type 0 where
   pub most : length run.met ≤ leaves
   pub exact : run.pending ≢ [] → length run.met ≡ leaves
+
+-- a run from the classes with so many leaves, whose list ascends, and whose pending classes can be read again
+pub record IsResumed (net : Net) (leaves : ℕ) (classes : List Branch) (run : Resumed) : Type 0 where
+  pub is_run : IsRun net classes run
+  pub ascending : IsStrictlyAscending (slice_cmp bool_cmp) run.found
+  pub left : ArePending net.places run.pending
+  pub counted : HasLeaves leaves run
 
 -- the classes, of a net with this many places, are parted among two lists: each is in one of them, and no class of the
 -- one has a siphon in common with a class of the other

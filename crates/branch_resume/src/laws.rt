@@ -1,9 +1,20 @@
-ghost use Rattle.branch_resume.specs.Laws.{CutsArePartings, ListsAreOneSearch, OneReading, TokensAreReadBack, TreesAreOneSearch};
+ghost use Rattle.branch_resume.specs.Laws.{CutsArePartings, ListsAreOneSearch, OneReading, SomeReading, SomeRun, TokensAreReadBack, TreesAreOneSearch};
 
 /// Bytes stand for one list of pending classes of a net, or have one malformed line, or one rejected line, and only
 /// one of these.
 pub fn one_reading()
     ensures { OneReading }
+{}
+
+/// Any bytes stand for pending classes of a net, or have a malformed line, or a rejected one.
+pub fn some_reading()
+    ensures { SomeReading }
+{}
+
+/// From any classes of a net there is a run with any number of leaves, whose list ascends and whose pending classes
+/// can be read again.
+pub fn some_run()
+    ensures { SomeRun }
 {}
 
 /// The token of pending classes, with any bytes after it, is read as these classes.

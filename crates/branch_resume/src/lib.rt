@@ -14,8 +14,8 @@ mod tests;
 
 pub use fault::PendingFault;
 pub use laws::{
-    cut_classes_are_parted, lists_of_runs_are_one_search, one_reading, tokens_are_read_back,
-    trees_of_runs_are_one_search,
+    cut_classes_are_parted, lists_of_runs_are_one_search, one_reading, some_reading, some_run,
+    tokens_are_read_back, trees_of_runs_are_one_search,
 };
 pub use printing::resume_text;
 pub use reading::read_pending;

@@ -14,14 +14,14 @@ use Rattle.closed_sets.proofs.SmallerSiphons.{minimal_from, minimal_without}
 use Rattle.siphon_branch.proofs.AllSets.{Decided}
 use Rattle.siphon_branch.proofs.Growths.{growth_over, growth_next}
 
-decide_siphon : (net : Net) (S : ℕ → Bool) → Decided (IsSiphon net S)
+pub decide_siphon : (net : Net) (S : ℕ → Bool) → Decided (IsSiphon net S)
 decide_siphon net S =
     elim (first_of net.transitions (is_open net S)) [
       | inr none ↦ inl (siphon_from_closed net S none)
       | inl opens ↦ inr (λ siphon. both_ways (is_open net S opens.0) (closed_from_siphon net S siphon opens.0 opens.1.below) opens.1.passes)
     ]
 
-decide_within : (net : Net) (S A : ℕ → Bool) → Decided (IsWithin net S A)
+pub decide_within : (net : Net) (S A : ℕ → Bool) → Decided (IsWithin net S A)
 decide_within net S A =
     elim (cases_Bool (any_below net.places (λ p. S p && not (A p)))) [
       | inl some ↦
@@ -67,7 +67,7 @@ module _ (net : Net) (S A : ℕ → Bool) (siphon : IsSiphon net S) (within : Is
   less_outside p first =
       outside_lt net.places A (with_place A p) p (λ k _ inside. or_right (k == p) (A k) inside) first.below (outside_it p first) (or_left (p == p) (A p) (eq-eqb p p refl))
 
-decide_grows : (steps : ℕ) (net : Net) (S A : ℕ → Bool) → IsSiphon net S → IsWithin net A S → outside net.places A < steps → Decided (GrowsWhole net S A)
+pub decide_grows : (steps : ℕ) (net : Net) (S A : ℕ → Bool) → IsSiphon net S → IsWithin net A S → outside net.places A < steps → Decided (GrowsWhole net S A)
 decide_grows zero net S A siphon within few = absurd (omega arith)
 decide_grows (suc steps) net S A siphon within few =
     elim (first_of net.transitions (is_open net A)) [

@@ -2,7 +2,7 @@
 -- one siphon is grown by that siphon.
 use Rattle.std.proofs.Common.{◌≡◌, ◌↔◌, ◌⊎◌, refl, sym, ap, ◌∙◌, subst, ℕ, ◌+◌, ◌-◌, List, [], ◌∷◌, ◌++◌, Bool, length, get_or, length-append, inl, inr, AllPairs, Contains, arith}
 use Rattle.std.proofs.lemmas.Bool.{both_ways}
-use Rattle.std.proofs.lemmas.List.{get_or_append_left, get_or-append_right, get_or_default}
+use Rattle.std.proofs.lemmas.List.{get_or_append_left, get_or-append_right, get_or-append-add, get_or_default}
 use Rattle.std.proofs.lemmas.List.Elements.{Contains-append_left, Contains-append_right, Contains-append_cases, Contains-push, Contains-push_cases}
 use Rattle.net_values.specs.Net.{Net}
 use Rattle.net_values.specs.PlaceSets.{has}
@@ -61,6 +61,12 @@ pairs_left R xs ys pairs i j d less within =
     let total = length-append xs ys in
     subst (λ x. R x (get_or xs j d)) (get_or_append_left xs ys d i (omega arith))
     (subst (λ y. R (get_or (xs ++ ys) i d) y) (get_or_append_left xs ys d j within) (pairs i j d less (omega arith)))
+
+pub pairs_right : {X : Type 0} (R : X → X → Type 0) (xs ys : List X) → AllPairs R (xs ++ ys) → AllPairs R ys
+pairs_right R xs ys pairs i j d less within =
+    let total = length-append xs ys in
+    subst (λ x. R x (get_or ys j d)) (get_or-append-add xs ys i d)
+    (subst (λ y. R (get_or (xs ++ ys) (length xs + i) d) y) (get_or-append-add xs ys j d) (pairs (length xs + i) (length xs + j) d (omega arith) (omega arith)))
 
 pub pairs_across : {X : Type 0} (R : X → X → Type 0) (xs ys : List X) → AllPairs R (xs ++ ys) → (x y : X) → Contains xs x → Contains ys y → R x y
 pairs_across R xs ys pairs x y one other =

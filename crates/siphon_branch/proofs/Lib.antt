@@ -15,5 +15,6 @@ pub mod Sorting
 pub mod LiveClasses
 pub mod AllSets
 pub mod Decisions
+pub mod ClassDecisions
 pub mod Limits
 pub mod TrapLists

@@ -40,7 +40,7 @@ few_not_many net limit carried = record { siphons = few_not_more _ limit carried
 less_not_equal : Less ≡ Equal → ⊥
 less_not_equal same = cc
 
-less_is_other : (one later : List Bool) → slice_cmp bool_cmp one later ≡ Less → one ≡ later → ⊥
+pub less_is_other : (one later : List Bool) → slice_cmp bool_cmp one later ≡ Less → one ≡ later → ⊥
 less_is_other one later less same = less_not_equal (sym less ∙ ap (λ set. slice_cmp bool_cmp set later) same ∙ equal_itself later)
 
 at_most_or_more : (net : Net) (P Q : List Bool → Type 0) (limit : ℕ) → ((set : List Bool) → Sized net.places P set → Q set) → ((set : List Bool) → Q set → Sized net.places P set) → ((set : List Bool) → Decided (P set)) → AtMostOrMore Q limit

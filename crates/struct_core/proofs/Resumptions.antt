@@ -3,18 +3,22 @@
 use Rattle.std.proofs.Common.{◌≡◌, ◌⊎◌, refl, sym, ap, subst, ℕ, ◌≤◌, List, inl, inr, arith}
 use Rattle.net_values.specs.declared.document.Document.{Document}
 use Rattle.net_values.specs.Net.{Net}
+use Rattle.net_values.specs.declared.limits.TheConstants.{MAX_PLACES}
 use Rattle.siphon_branch.specs.declared.branch.Branch.{Branch}
 use Rattle.branch_resume.specs.declared.fault.PendingFault.{PendingFault}
 use Rattle.branch_resume.specs.declared.fault.PendingFault.TheVariants as readings
 use Rattle.branch_resume.specs.declared.resumed.Resumed.{Resumed}
 use Rattle.branch_resume.specs.Pending.{ReadsPending, IsMalformedAt, IsRejectedAt}
+use Rattle.branch_resume.specs.Runs.{IsResumed}
 use Rattle.branch_resume.specs.Texts.{resume_text}
+use Rattle.branch_resume.proofs.SomeReading.{some_reading}
+use Rattle.branch_resume.proofs.SomeRun.{some_run}
 use Rattle.branch_resume.proofs.Unique.{one_reading}
 use Rattle.report.specs.declared.refusal.Refusal.TheVariants.{MalformedPending, RejectedPending}
 use Rattle.report.specs.FaultLines.{pending_malformed_line, pending_rejected_line}
 use Rattle.struct_core.specs.Answers.{FailsWith}
-use Rattle.struct_core.specs.Determined.{DifferInRun, IsResumeDecided}
-use Rattle.struct_core.specs.Resuming.{IsResumed, ResumeOutcome, malformed_token, rejected_token, resumed}
+use Rattle.struct_core.specs.Determined.{DifferInRun}
+use Rattle.struct_core.specs.Resuming.{ResumeOutcome, malformed_token, rejected_token, resumed}
 
 module _ (document : Document) (net : Net) (ids : ℕ → List ℕ) (leaves : ℕ) (bytes : List ℕ) where
   abbrev Told : ℕ → List ℕ → Type 0
@@ -36,9 +40,9 @@ module _ (document : Document) (net : Net) (ids : ℕ → List ℕ) (leaves : �
 
   -- ---- some outcome, and one but for the run
 
-  pub some_resume_outcome : IsResumeDecided net leaves → (status : ℕ) × (text : List ℕ) × Told status text
-  some_resume_outcome decide = elim (decide bytes) [
-    | inl run ↦ (0, resume_text document ids run.1, resumed run.0 run.1 run.2 run.3)
+  pub some_resume_outcome : net.places ≤ MAX_PLACES → (status : ℕ) × (text : List ℕ) × Told status text
+  some_resume_outcome fits = elim (some_reading net.places bytes fits) [
+    | inl read ↦ let run = some_run net read.0 leaves in (0, resume_text document ids run.0, resumed read.0 run.0 read.1 run.1)
     | inr fault ↦ elim fault [
       | inl malformed ↦ (1, pending_malformed_line malformed.0, malformed_token malformed.0 malformed.1)
       | inr rejected ↦ (1, pending_rejected_line rejected.0, rejected_token rejected.0 rejected.1)

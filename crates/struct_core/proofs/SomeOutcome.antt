@@ -123,7 +123,7 @@ some_task_outcome tasks.CertCommoner budgets document net rest limit decided =
 some_task_outcome tasks.Verify budgets document net rest limit decided = some_verify (net_of net) rest
 some_task_outcome tasks.Live budgets document net rest limit decided = some_liveness _ _ _ (few_or_many (net_of net) budgets.sets).siphons (verdict_of (net_of net))
 some_task_outcome tasks.Sub budgets document net rest limit decided = some_sub_outcome _ _ _ _ decided
-some_task_outcome tasks.Resume budgets document net rest limit decided = some_resume_outcome document _ _ _ rest decided
+some_task_outcome tasks.Resume budgets document net rest limit decided = some_resume_outcome document _ _ _ rest limit
 some_task_outcome tasks.Replay budgets document net rest limit decided = some_replay_outcome _ _ _ rest
 
 -- ---- of an input

@@ -3,7 +3,6 @@ use Rattle.std.specs.Prelude.{◌≡◌, ◌⊎◌, ℕ, List, ◌++◌}
 use Rattle.net_values.specs.Net.{Net}
 use Rattle.siphon_branch.specs.declared.branch.Branch.{Branch}
 use Rattle.branch_resume.specs.declared.resumed.Resumed.{Resumed}
-use Rattle.branch_resume.specs.Pending.{ReadsPending, IsMalformedAt, IsRejectedAt}
 use Rattle.branch_resume.specs.Runs.{IsRun}
 use Rattle.branch_resume.specs.Texts.{resume_text}
 use Rattle.net_values.specs.declared.document.Document.{Document}
@@ -26,7 +25,6 @@ use Rattle.struct_core.specs.declared.order.Order.TheVariants.{Run, Sample}
 use Rattle.struct_core.specs.Enumerations.{AreListed}
 use Rattle.struct_core.specs.Inputs.{front_of}
 use Rattle.struct_core.specs.Outcome.{Outcome, Profile, sample_tasks}
-use Rattle.struct_core.specs.Resuming.{IsResumed}
 use Rattle.std.specs.List.{AllByRecursion}
 use Rattle.struct_core.specs.Words.{default_budgets, IsInRange}
 use Rattle.struct_core.specs.Sample.{sample_document}
@@ -76,22 +74,13 @@ IsEliminationDecided m budget =
     ((list : List (List ℕ)) × AreListed m budget list × ((y : ℕ → ℕ) → IsSemiflow m all_columns y → IsGenerated m list y))
     ⊎ ((fault : ElimFault) × IsFirstFail m budget fault)
 
--- any bytes stand for classes from which there is a run with so many leaves, or have a line that keeps them from being
--- read
-abbrev pub IsResumeDecided : Net → ℕ → Type 0
-IsResumeDecided net leaves =
-    (bytes : List ℕ)
-    → ((classes : List Branch) × (run : Resumed) × ReadsPending net.places bytes classes × IsResumed net leaves classes run)
-    ⊎ (((line : ℕ) × IsMalformedAt bytes line) ⊎ ((line : ℕ) × IsRejectedAt net.places bytes line))
-
--- what has to be decided for a task: nothing but the elimination, and the run of `resume`
+-- what has to be decided for a task: nothing but the elimination
 abbrev pub IsDecided : Task → Budgets → NetLists → Type 0
 IsDecided tasks.Places budgets net = IsEliminationDecided (incidence_of (net_of net)) budgets.rows
 IsDecided tasks.Transitions budgets net = IsEliminationDecided (transposed (incidence_of (net_of net))) budgets.rows
 IsDecided tasks.Bounds budgets net = IsEliminationDecided (incidence_of (net_of net)) budgets.rows
 IsDecided tasks.CertBounds budgets net = IsEliminationDecided (incidence_of (net_of net)) budgets.rows
 IsDecided tasks.Sub budgets net = IsEliminationDecided (extended_of (net_of net)) budgets.rows
-IsDecided tasks.Resume budgets net = IsResumeDecided (net_of net) budgets.sets
 IsDecided _ budgets net = Unit
 
 -- of a task every input has an outcome, where what it needs is decided

@@ -1,23 +1,13 @@
 -- What `resume` tells of a document, its net and the bytes that follow the document.
 use Rattle.std.specs.Prelude.{ℕ, List}
-use Rattle.std.specs.Cmp.Lexicographic.{slice_cmp}
-use Rattle.std.specs.Ordering.{bool_cmp}
 use Rattle.net_values.specs.declared.document.Document.{Document}
 use Rattle.net_values.specs.Net.{Net}
-use Rattle.net_values.specs.TheList.{IsStrictlyAscending}
 use Rattle.siphon_branch.specs.declared.branch.Branch.{Branch}
 use Rattle.branch_resume.specs.declared.resumed.Resumed.{Resumed}
-use Rattle.branch_resume.specs.Pending.{ArePending, ReadsPending, IsMalformedAt, IsRejectedAt}
-use Rattle.branch_resume.specs.Runs.{HasLeaves, IsRun}
+use Rattle.branch_resume.specs.Pending.{ReadsPending, IsMalformedAt, IsRejectedAt}
+use Rattle.branch_resume.specs.Runs.{IsResumed}
 use Rattle.branch_resume.specs.Texts.{resume_text}
 use Rattle.report.specs.FaultLines.{pending_malformed_line, pending_rejected_line}
-
--- a run from the classes with so many leaves, whose list ascends, and whose pending classes can be read again
-pub record IsResumed (net : Net) (leaves : ℕ) (classes : List Branch) (run : Resumed) : Type 0 where
-  pub is_run : IsRun net classes run
-  pub ascending : IsStrictlyAscending (slice_cmp bool_cmp) run.found
-  pub left : ArePending net.places run.pending
-  pub counted : HasLeaves leaves run
 
 -- for the bytes: the first line that begins no token, or whose class is refused; or a run from the classes that are read
 pub data ResumeOutcome (document : Document) (net : Net) (ids : ℕ → List ℕ) (leaves : ℕ) (bytes : List ℕ) : ℕ → List ℕ → Type 0 where

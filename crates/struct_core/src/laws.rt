@@ -59,8 +59,7 @@ pub fn one_outcome()
 {}
 
 /// Every input has an outcome; for the semiflows, the sub-semiflows, the bounds and their certificate, where it is decided
-/// that every step of the elimination passes or that one fails first, and for `resume`, where it is decided which classes
-/// the bytes stand for and that there is a run from them.
+/// that every step of the elimination passes or that one fails first.
 pub fn some_outcome()
     ensures { HasSomeOutcome }
 {}
