@@ -18,5 +18,6 @@ pub mod Supports
 pub mod Walks
 pub mod Packed
 pub mod PackedPlaces
+pub mod PackedWalks
 pub mod VectorOrder
 pub mod Divided

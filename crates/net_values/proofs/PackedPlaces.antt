@@ -1,12 +1,12 @@
--- A position of a vector that is kept as its positive entries: with the index of its number the entry is read, changed
--- and passed.
-use Rattle.std.proofs.Common.{◌≡◌, refl, sym, ap, ◌∙◌, subst, ℕ, zero, suc, ◌+◌, ◌^◌, ◌<◌, ◌≤◌, nat_lt, List, [], ◌∷◌, ◌++◌, Bool, true, false, length, get_or, replicate, insert, remove, slice_index, slice_set, arith}
+-- A position of a vector that is kept as its positive entries: with the index of its number the entry is read and
+-- changed.
+use Rattle.std.proofs.Common.{◌≡◌, refl, sym, ap, ◌∙◌, subst, ℕ, zero, suc, ◌^◌, ◌<◌, ◌≤◌, nat_lt, List, [], ◌∷◌, ◌++◌, Bool, true, false, length, get_or, replicate, insert, remove, slice_index, slice_set, arith}
 use Rattle.std.proofs.lemmas.Bool.{lt-ltb, le-ltb}
-use Rattle.net_values.specs.PlaceSets.{has, IsFirstFrom, members_below}
-use Rattle.net_values.specs.Vectors.{AreZerosFrom, AreZerosBetween, IsKept, IsPacked, IsWalked, packed, unpacked, positives_below, positive_count}
+use Rattle.net_values.specs.PlaceSets.{has, members_below}
+use Rattle.net_values.specs.Vectors.{AreZerosFrom, IsKept, IsPacked, packed, unpacked, positives_below, positive_count}
 use Rattle.net_values.proofs.Supports.{support_has, set_vector, set_support, zeros_vector, zeros_support}
-use Rattle.net_values.proofs.Walks.{zero_where, positive_where, none_between, one_more, count_short}
-use Rattle.net_values.proofs.Packed.{packed_size, members_positive, number_at, number_below, index_within, number_put, number_inserted, number_removed, number_pushed, kept_whole, packed_none, packs}
+use Rattle.net_values.proofs.Walks.{zero_where, positive_where, count_short}
+use Rattle.net_values.proofs.Packed.{unpacked_size, packed_size, members_positive, number_at, number_below, index_within, number_put, number_inserted, number_removed, number_pushed, kept_whole, packed_none, packs}
 use Rattle.net_values.specs.declared.limits.TheConstants.{MAX_ENTRIES}
 
 member_again : (set : List Bool) (p : ℕ) → has set p ≡ true → slice_set set p true ≡ set
@@ -33,21 +33,30 @@ module _ (entries : List ℕ) (support : List Bool) (numbers : List ℕ) (k : Is
   pub count_is : length numbers ≡ positive_count entries
   count_is = ap length k.listed ∙ packed_size entries
 
-  module _ (p index : ℕ) (at : index ≡ positives_below entries p) where
+  module _ (p index : ℕ) (counted : index ≡ members_below support p) where
+    at : index ≡ positives_below entries p
+    at = counted ∙ index_of p
+
     pub index_below : has support p ≡ true → index < length numbers
     index_below is =
         let size : length numbers ≡ length (packed entries) = ap length k.listed in
         let under = number_below entries p (positive_here p is) in
-        omega arith
+        omega (arith, at)
 
     pub index_most : index ≤ length numbers
     index_most =
         let size : length numbers ≡ length (packed entries) = ap length k.listed in
         let under = index_within entries p in
-        omega arith
+        omega (arith, at)
 
     pub number_here : (d : ℕ) → has support p ≡ true → get_or numbers index d ≡ slice_index entries p
     number_here d is = ap (λ (xs : List ℕ). get_or xs index d) k.listed ∙ ap (λ (i : ℕ). get_or (packed entries) i d) at ∙ number_at entries p d (positive_here p is)
+
+    pub number_narrow : (d : ℕ) → p < length entries → has support p ≡ true → get_or numbers index d < 2 ^ 127
+    number_narrow d within is =
+        let here = number_here d is in
+        let narrow = k.vector.narrow p 0 within in
+        omega arith
 
     pub put_kept : (entry : ℕ) → p < length entries → 0 < entry → entry < 2 ^ 127 → has support p ≡ true → IsKept (slice_set entries p entry) support (slice_set numbers index entry)
     put_kept entry within positive narrow is = record {
@@ -77,34 +86,6 @@ module _ (entries : List ℕ) (support : List Bool) (numbers : List ℕ) (k : Is
     listed = ap (λ (xs : List ℕ). xs ++ entry ∷ []) k.listed ∙ sym (number_pushed entries p entry positive within zeros);
   }
 
--- a walk over such a vector
-module _ (support : List Bool) (numbers : List ℕ) (from index : ℕ) (w : IsWalked support numbers from index) where
-  pub zeros_before : (p : ℕ) → IsFirstFrom support from p → AreZerosBetween (unpacked support numbers) from p
-  zeros_before p f = record { order = f.not_before; zeros = λ q late under. zero_here (unpacked support numbers) support numbers w.kept q (f.first q late under) }
-
-  pub index_at : (p : ℕ) → AreZerosBetween (unpacked support numbers) from p → index ≡ positives_below (unpacked support numbers) p
-  index_at p z = w.passed ∙ sym (none_between (unpacked support numbers) from p z.order z.zeros)
-
-  pub walked_on : (p : ℕ) → AreZerosBetween (unpacked support numbers) from p → has support p ≡ true → IsWalked support numbers (p + 1) (index + 1)
-  walked_on p z is = record {
-    kept = w.kept;
-    passed =
-        let same : p + 1 ≡ suc p = omega arith in
-        let to : positives_below (unpacked support numbers) (p + 1) ≡ positives_below (unpacked support numbers) (suc p) = ap (positives_below (unpacked support numbers)) same in
-        let more = one_more (unpacked support numbers) p (positive_here (unpacked support numbers) support numbers w.kept p is) in
-        let at = index_at p z in
-        omega arith;
-  }
-
-  pub walked_past : (p : ℕ) → AreZerosBetween (unpacked support numbers) from p → has support p ≡ false → IsWalked support numbers (p + 1) index
-  walked_past p z is = record {
-    kept = w.kept;
-    passed =
-        let here = zero_here (unpacked support numbers) support numbers w.kept p is in
-        index_at p z ∙ sym (none_between (unpacked support numbers) p (p + 1) (omega arith) (λ q late under.
-        let same : q ≡ p = omega arith in ap (slice_index (unpacked support numbers)) same ∙ here));
-  }
-
 -- what is kept of no positive entry
 pub zeros_kept : (n : ℕ) → n ≤ MAX_ENTRIES → IsKept (replicate n 0) (replicate n false) []
 zeros_kept n bound = record { vector = zeros_vector n bound; positions = zeros_support n; listed = sym (packed_none n) }
@@ -125,3 +106,17 @@ module _ (entries : List ℕ) (support set : List Bool) (numbers list : List ℕ
 
   pub shown : unpacked set list ≡ entries
   shown = kept_whole entries set list kept_now
+
+pub short_support : (support : List Bool) (numbers : List ℕ) (room : ℕ) → IsPacked support numbers room → length support ≤ MAX_ENTRIES
+short_support support numbers room p = let size = unpacked_size support numbers in omega (arith, p.kept.vector.short)
+
+-- what is kept of the entries that a vector is seen as
+module _ (entries : List ℕ) (support : List Bool) (numbers : List ℕ) (room : ℕ) (p : IsPacked support numbers room) (seen : unpacked support numbers ≡ entries) where
+  pub held : IsKept entries support numbers
+  held = subst (λ (es : List ℕ). IsKept es support numbers) seen p.kept
+
+  pub held_room : length entries ≤ room
+  held_room =
+      let size = unpacked_size support numbers in
+      let same : length (unpacked support numbers) ≡ length entries = ap length seen in
+      omega (arith, p.enough)

@@ -29,7 +29,11 @@ or_bits a b c is first second =
 no_bits : (a b c : ℕ) → c ≡ bit_or a b → a ≡ 0 → b ≡ 0 → c ≡ 0
 no_bits a b c is first second = is ∙ ap (λ (x : ℕ). bit_or x b) first ∙ ap (bit_or 0) second
 
-module _ (words others united : List ℕ) (size : ℕ) (w : AreWords words size) (o : AreWords others size) (count : length united ≡ length words) (each : (k : ℕ) → k < length words → slice_index united k ≡ bit_or (slice_index words k) (slice_index others k)) where
+-- each word of a union has the bits of two
+abbrev pub AreUnited : List ℕ → List ℕ → List ℕ → Type 0
+AreUnited words others united = (k : ℕ) → k < length words → slice_index united k ≡ bit_or (slice_index words k) (slice_index others k)
+
+module _ (words others united : List ℕ) (size : ℕ) (w : AreWords words size) (o : AreWords others size) (count : length united ≡ length words) (each : AreUnited words others united) where
   word_is : (k : ℕ) → slice_index united k ≡ bit_or (slice_index words k) (slice_index others k)
   word_is k =
       elim (cases_lt k (length words)) [
@@ -61,3 +65,14 @@ module _ (words others united : List ℕ) (size : ℕ) (w : AreWords words size)
   united_has p =
       has_member united size p united_words ∙ in_either p
       ∙ sym (ap (λ (t : Bool). t || has (members_of others size) p) (has_member words size p w) ∙ ap (λ (t : Bool). word_has words p || t) (has_member others size p o))
+
+-- the same of words that were read
+module _ (words others first second united : List ℕ) (size : ℕ) (w : AreWords words size) (o : AreWords others size) (own : first ≡ words) (other : second ≡ others) (count : length united ≡ length first) (each : AreUnited first second united) where
+  read_each : AreUnited words others united
+  read_each = subst (λ (l : List ℕ). AreUnited l others united) own (subst (λ (l : List ℕ). AreUnited first l united) other each)
+
+  pub now_words : AreWords united size
+  now_words = united_words words others united size w o (count ∙ ap length own) read_each
+
+  pub now_has : (p : ℕ) → has (members_of united size) p ≡ (has (members_of words size) p || has (members_of others size) p)
+  now_has = united_has words others united size w o (count ∙ ap length own) read_each

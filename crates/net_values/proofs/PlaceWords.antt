@@ -1,10 +1,10 @@
 -- Words of 64 bits as a set of places. A place is given by its word and its bit and has one of each, so what is
 -- said of each place and what is said of each bit of each word are one.
-use Rattle.std.proofs.Common.{◌≡◌, ◌⊎◌, sym, ap, ◌∙◌, subst, ℕ, ◌+◌, ◌-◌, ◌*◌, ◌/◌, ◌%◌, ◌^◌, ◌<◌, ◌≤◌, ◌==◌, List, Bool, true, false, IsTrue, length, min, max, replicate, slice_index, slice_set, length-set, inl, inr, arith}
+use Rattle.std.proofs.Common.{◌≡◌, ◌⊎◌, sym, ap, ◌∙◌, subst, ℕ, ◌+◌, ◌-◌, ◌*◌, ◌/◌, ◌%◌, ◌^◌, ◌<◌, ◌≤◌, ◌==◌, List, Bool, true, false, IsTrue, length, get_or, min, max, replicate, slice_index, slice_set, length-set, inl, inr, arith}
 use Rattle.std.specs.Int.{bit_at, bit_not, w64}
 use Rattle.std.specs.Int.RustNames.{bit_and, bit_or}
 use Rattle.std.proofs.lemmas.Bool.{eqb-true, eqb-false, eq-eqb, ne_eqb, cases_lt, cases_eq, true≢false}
-use Rattle.std.proofs.lemmas.List.{get_or-set_same, get_or-set_other, get_or-replicate, get_or_past, length-replicate}
+use Rattle.std.proofs.lemmas.List.{get_or-set_same, get_or-set_other, get_or-replicate, get_or_past, get_or_read, length-replicate}
 use Rattle.std.proofs.lemmas.List.FromFn.{get_or-map-range_with_len, length-map-range_with_len, fill_by_all}
 use Rattle.std.proofs.lemmas.Nat.{div-mul-add, mod-mul-add, div-add-mod', mod_below, and_le_l, or_lt}
 use Rattle.std.proofs.lemmas.Nat.Bits.{bit_at-lt, bit_at-zero, bit_at_and, bit_at_or, bit_at_not, same_from_bits_below}
@@ -260,3 +260,16 @@ module _ (words others : List ℕ) (size size' : ℕ) (set other : List Bool) (w
 
   pub seen : members_of others size ≡ other
   seen = ap (members_of others) (sym one_size) ∙ other_is
+
+-- a set of which one place is put in or taken out, as it is seen
+module _ (words : List ℕ) (size p : ℕ) (set : List Bool) (w : AreWords words size) (is : members_of words size ≡ set) (under : p < length set) (old word : ℕ) (b : Bool) (read : old ≡ get_or words (p / 64) old) (narrow : word < 2 ^ 64) (here : (bit_at word (p % 64) == 1) ≡ b) (elsewhere : (i : ℕ) → i < 64 → (i ≡ p % 64 → ⊥) → bit_at word i ≡ bit_at old i) where
+  changed_bits : (i : ℕ) → i < 64 → (i ≡ p % 64 → ⊥) → bit_at word i ≡ bit_at (slice_index words (p / 64)) i
+  changed_bits i below other = elsewhere i below other ∙ ap (λ (x : ℕ). bit_at x i) (get_or_read words (p / 64) old (place_below words size p set w is under) read 0)
+
+  pub changed_words : AreWords (slice_set words (p / 64) word) size
+  changed_words = put_words words size p word b w (omega (arith, under, size_is words size set is)) narrow here changed_bits
+
+  pub changed_members : members_of (slice_set words (p / 64) word) size ≡ slice_set set p b
+  changed_members =
+      put_members words size p word b w (omega (arith, under, size_is words size set is)) narrow here changed_bits
+      ∙ ap (λ (s : List Bool). slice_set s p b) is

@@ -1,10 +1,7 @@
--- A walk over the positive entries: it finds the first one through the set of their positions, and each one that it
--- passes is one more below the position that it has come to.
-use Rattle.std.proofs.Common.{◌≡◌, refl, sym, ap, ◌∙◌, subst, ℕ, zero, suc, ◌+◌, ◌^◌, ◌<◌, ◌≤◌, nat_lt, List, [], ◌∷◌, Bool, true, false, Option, None, Some, MatchOption, IfSome, length, slice_index, arith}
+-- A walk over the positive entries: each one that it passes is one more below the position that it has come to.
+use Rattle.std.proofs.Common.{◌≡◌, refl, sym, ap, ◌∙◌, subst, ℕ, zero, suc, ◌+◌, ◌<◌, ◌≤◌, nat_lt, List, [], ◌∷◌, true, false, Option, None, Some, MatchOption, IfSome, length, slice_index, arith}
 use Rattle.std.proofs.lemmas.Bool.{lt-ltb, le-ltb, true≢false}
-use Rattle.net_values.specs.PlaceSets.{HasNoneFrom, IsFirstFrom}
-use Rattle.net_values.specs.Vectors.{AreZerosFrom, IsFirstPositive, IsPositive, WalkValue, support_of, positives_below, positive_count}
-use Rattle.net_values.proofs.Supports.{support_has, support_size}
+use Rattle.net_values.specs.Vectors.{AreZerosFrom, IsFirstPositive, IsPositive, WalkValue, positives_below, positive_count}
 
 -- a position that isn't in the set has no positive entry
 pub zero_where : (n : ℕ) → nat_lt 0 n ≡ false → n ≡ 0
@@ -14,22 +11,6 @@ zero_where (suc n) none = absurd (true≢false (sym (lt-ltb 0 (suc n) (omega ari
 pub positive_where : (n : ℕ) → nat_lt 0 n ≡ true → 0 < n
 positive_where zero some = absurd (true≢false (sym some ∙ le-ltb 0 0 (omega arith)))
 positive_where (suc n) some = omega arith
-
-pub zeros_from : (entries : List ℕ) (from : ℕ) → HasNoneFrom (support_of entries) from → AreZerosFrom entries from
-zeros_from entries from none p late = zero_where _ (sym (support_has entries p) ∙ none p late)
-
--- what a walk finds, by the set of the positions
-pub walk_ends : (entries numbers : List ℕ) (support : List Bool) (from next : ℕ) → numbers ≡ entries → next ≡ from → support ≡ support_of numbers → HasNoneFrom support next → AreZerosFrom entries from
-walk_ends entries numbers support from next same at is none = subst (λ (es : List ℕ). AreZerosFrom es from) same (subst (AreZerosFrom numbers) at (zeros_from numbers next (subst (λ (s : List Bool). HasNoneFrom s next) is none)))
-
-pub first_positive : (entries : List ℕ) (from p entry : ℕ) → IsFirstFrom (support_of entries) from p → entry ≡ slice_index entries p → entry < 2 ^ 127 → IsFirstPositive entries from p entry
-first_positive entries from p entry first here narrow = record {
-  within = let under = first.below_size in omega (arith, support_size entries);
-  zeros = record { order = first.not_before; zeros = λ q late under. zero_where _ (sym (support_has entries q) ∙ first.first q late under) };
-  here = here;
-  positive = let some = positive_where (slice_index entries p) (sym (support_has entries p) ∙ first.member) in omega arith;
-  narrow = narrow;
-}
 
 pub start : (entries : List ℕ) → positives_below entries 0 ≡ 0
 start [] = refl
