@@ -10,8 +10,8 @@ use Rattle.report.specs.declared.refusal.Refusal.TheVariants.{Usage, Document, R
 use Rattle.report.specs.declared.refusal.Excess.{Excess}
 use Rattle.report.specs.declared.refusal.Excess.TheVariants.{WideSum, WideRow, WideBound, WideCheck, WideMarking, RowBudget, SetLimit}
 use Rattle.report.specs.FaultLines.{document_line, rule_line, wide_sum_line, wide_row_line, wide_bound_line, wide_check_line, budget_line, limit_line, malformed_line, rejected_line, pending_malformed_line, pending_rejected_line, firing_malformed_line, firing_rejected_line, wide_marking_line, usage_line, length_line, read_line, write_line, memory_line}
-use Rattle.pnml_source.specs.declared.reading.ReadAllFault.{ReadAllFault}
-use Rattle.pnml_source.specs.declared.reading.ReadAllFault.TheVariants as readings
+use Rattle.pnml_source.specs.declared.reading.ReadPieceFault.{ReadPieceFault}
+use Rattle.pnml_source.specs.declared.reading.ReadPieceFault.TheVariants as readings
 
 abbrev pub document_status : DocFault → ℕ
 document_status documents.NoMemory = 10
@@ -85,7 +85,6 @@ line_of WriteFault = write_line
 line_of NoMemory = memory_line
 
 -- the refusal of a run whose input isn't there
-abbrev pub reading_refusal : ReadAllFault → Refusal
-reading_refusal readings.NoMemory = NoMemory
+abbrev pub reading_refusal : ReadPieceFault → Refusal
 reading_refusal readings.ReadFault = ReadFault
 reading_refusal readings.TooLong = TooLong

@@ -4,7 +4,7 @@ ghost use Rattle.report.specs.Refusals.{status_of, document_status, rule_status,
 use net_values::{NoMemory, Text};
 use page_flatten::FlatFault;
 use pnml_decode::DocFault;
-use pnml_source::{ReadAllFault, WriteFault};
+use pnml_source::{ReadPieceFault, WriteFault};
 
 /// Why a run wrote no text, or not all of it.
 #[derive(Drop)]
@@ -136,16 +136,15 @@ impl From<DocFault> for Refusal {
     }
 }
 
-impl From<ReadAllFault> for Refusal {
+impl From<ReadPieceFault> for Refusal {
     ghost use Rattle.report.specs.Refusals.{reading_refusal};
 
     ghost from_gives = { λ fault refusal. refusal ≡ reading_refusal fault };
 
-    fn from(fault: ReadAllFault) -> Refusal {
+    fn from(fault: ReadPieceFault) -> Refusal {
         match fault {
-            ReadAllFault::NoMemory => Refusal::NoMemory,
-            ReadAllFault::ReadFault => Refusal::ReadFault,
-            ReadAllFault::TooLong => Refusal::TooLong,
+            ReadPieceFault::ReadFault => Refusal::ReadFault,
+            ReadPieceFault::TooLong => Refusal::TooLong,
         }
     }
 }

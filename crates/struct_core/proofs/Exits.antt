@@ -1,19 +1,18 @@
 -- The ways in which a run ends, one lemma each, over what the devices told: the facts of the last call are
 -- put beside the fields of the run that speak of its status, and the others are void.
-use Rattle.std.proofs.Common.{IsErrAnd, IfOk, IfErr, Result, Ok, Err, ◌≡◌, ◌≢◌, ℕ, ◌+◌, ◌≤◌, List, [], length, refl, sym, subst, arith, inl, inr, ◌⊎◌}
+use Rattle.std.proofs.Common.{IsErrAnd, IfOk, IfErr, Result, Ok, Err, ◌≡◌, ◌≢◌, ℕ, ◌+◌, ◌≤◌, List, [], refl, sym, subst, arith, inl, inr, ◌⊎◌}
 use Rattle.std.proofs.KnownBytes.{Keeps-refl, Consumes-nil}
 use Rattle.std.specs.Io.KnownBytes.{Appends}
 use Rattle.net_values.specs.declared.limits.TheConstants.{MAX_INPUT_BYTES}
 use Rattle.pnml_source.specs.Causes.{Rose}
-use Rattle.pnml_source.specs.Streams.{AppendsFront, TakesAtMost, TakesExactly, IsWholeInput}
-use Rattle.pnml_source.specs.declared.reading.ReadAllFault.{ReadAllFault}
-use Rattle.pnml_source.specs.declared.reading.ReadAllFault.TheVariants as readings
+use Rattle.pnml_source.specs.Streams.{AppendsFront, TakesAtMost, TakesExactly}
 use Rattle.struct_core.specs.declared.order.Task.{Task}
 use Rattle.struct_core.specs.declared.order.Budgets.{Budgets}
 use Rattle.struct_core.specs.declared.order.Order.{Order}
 use Rattle.struct_core.specs.declared.order.Order.TheVariants.{Run, Sample}
 use Rattle.report.specs.declared.refusal.Refusal.{Refusal}
-use Rattle.report.specs.Refusals.{status_of, line_of, reading_refusal}
+use Rattle.report.specs.declared.refusal.Refusal.TheVariants.{NoMemory}
+use Rattle.report.specs.Refusals.{status_of, line_of}
 use Rattle.struct_core.specs.Answers.{IsMemory, IsTold, FailsWith, status_after, line_after}
 use Rattle.struct_core.specs.Words.{Means}
 use Rattle.report.specs.FaultLines.{usage_line, length_line, read_line, write_line, memory_line}
@@ -143,15 +142,6 @@ out_of_memory words order source source' out means kept taken nothing = record {
 
 -- ---- runs with an outcome: what the order reads was read without a fault
 
-pub read_whole : (task : Task) (k : ℕ) (budgets : Budgets) (source source' : Device) (input bytes : List ℕ) → input ≡ bytes → IsWholeInput source.bytes source'.bytes bytes
-    → length bytes ≤ MAX_INPUT_BYTES → source'.faults ≡ source.faults → HasRead (Run task k budgets) source source' input
-read_whole task k budgets source source' input bytes same whole short kept =
-    subst (λ (t : List ℕ). HasRead (Run task k budgets) source source' t) (sym same) record {
-      reads = record { read = whole.taken; whole = whole.ended; short = short };
-      taken = (bytes, whole.taken, short);
-      kept = kept;
-    }
-
 pub read_nothing : (n : ℕ) (source : Device) (input : List ℕ) → HasRead (Sample n) source source input
 read_nothing n source input = record {
   reads = untouched source;
@@ -258,17 +248,11 @@ refused_so words source source' out out' (Err error) refusal same ran =
 
 -- ---- the text of an order
 
--- the input wasn't read
-pub not_read : (task : Task) (k : ℕ) (budgets : Budgets) (source source' : Device) (fault : ReadAllFault) → (fault ≡ readings.ReadFault → Rose source.faults source'.faults)
-    → (fault ≡ readings.TooLong → TakesExactly source.bytes source'.bytes (MAX_INPUT_BYTES + 1)) → (fault ≡ readings.TooLong → source'.faults ≡ source.faults)
-    → (fault ≡ readings.NoMemory → TakesAtMost source.bytes source'.bytes MAX_INPUT_BYTES) → (fault ≡ readings.NoMemory → source'.faults ≡ source.faults)
-    → EndsBy (Run task k budgets) source source' (reading_refusal fault)
-not_read task k budgets source source' readings.NoMemory rose long long_kept short short_kept = λ words out means.
-    out_of_memory words (Run task k budgets) source source' out means (short_kept refl) (short refl) (λ n also. no_sample words task k budgets source source' 10 n means also)
-not_read task k budgets source source' readings.ReadFault rose long long_kept short short_kept = λ words out means.
-    read_failed words task k budgets source source' out means (rose refl)
-not_read task k budgets source source' readings.TooLong rose long long_kept short short_kept = λ words out means.
-    input_too_long words task k budgets source source' out means (long_kept refl) (long refl)
+-- memory was refused before the input was read whole
+pub no_room : (task : Task) (k : ℕ) (budgets : Budgets) (source source' : Device) → source'.faults ≡ source.faults
+    → TakesAtMost source.bytes source'.bytes MAX_INPUT_BYTES → EndsBy (Run task k budgets) source source' NoMemory
+no_room task k budgets source source' kept taken = λ words out means.
+    out_of_memory words (Run task k budgets) source source' out means kept taken (λ n also. no_sample words task k budgets source source' 10 n means also)
 
 -- it was read, and the answer is a text or a refusal
 pub text_there : (order : Order) (source source' : Device) (input : List ℕ) (result : Result (List ℕ) Refusal) → HasRead order source source' input

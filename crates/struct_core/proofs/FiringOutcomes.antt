@@ -1,6 +1,6 @@
 -- What is told of a firing list: each fault by its line, and the replay by its text. One of these comes for each net and
 -- bytes, one only, and it is the replay where the lines are ids and the list fires within range.
-use Rattle.std.proofs.Common.{◌≡◌, ◌⊎◌, ◌∙◌, refl, sym, ap, subst, ℕ, zero, suc, ◌+◌, ◌<◌, List, inl, inr, arith}
+use Rattle.std.proofs.Common.{◌≡◌, refl, sym, ap, subst, ℕ, ◌<◌, List, inl, inr, arith}
 use Rattle.net_values.specs.Net.{Net}
 use Rattle.net_values.specs.declared.token_game.FireFault.{FireFault}
 use Rattle.net_values.specs.declared.token_game.FireFault.TheVariants.{NotEnabled, WideMarking}

@@ -1,5 +1,7 @@
 pub mod Exits
 pub mod Telling
+pub mod Intaking
+pub mod InputReads
 pub mod Refusing
 pub mod Listing
 pub mod Judging

@@ -1,6 +1,6 @@
 -- What the lists of a net, and the faults of listing them, tell.
 use Rattle.page_flatten.proofs.FaultLaws.{err_goes}
-use Rattle.std.proofs.Common.{IsErrAnd, IfErr, Result, ◌≡◌, ℕ, ◌<◌, List, sym, subst, arith, inl, inr, ◌∙◌}
+use Rattle.std.proofs.Common.{IsErrAnd, IfErr, Result, ◌≡◌, ℕ, List, sym, subst, arith, inl, inr, ◌∙◌}
 use Rattle.std.specs.Prelude.{Bool, All, Contains, length}
 use Rattle.std.specs.Cmp.Lexicographic.{slice_cmp}
 use Rattle.std.specs.Ordering.{nat_cmp, bool_cmp}

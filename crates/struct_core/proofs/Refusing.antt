@@ -23,19 +23,15 @@ use Rattle.struct_core.specs.Outcome.{Outcome, TaskOutcome, no_document, broken,
 use Rattle.struct_core.specs.Answers.{FailsWith, IsRefusedNet}
 use Rattle.struct_core.proofs.Listing.{fails_so}
 
-document_fails : (task : Task) (k : ℕ) (budgets : Budgets) (bytes : List ℕ) (fault : DocFault) → NamesFirstFault fault (front_of task bytes)
+pub document_refused : (task : Task) (k : ℕ) (budgets : Budgets) (bytes : List ℕ) (fault : DocFault) → NamesFirstFault fault (front_of task bytes)
     → FailsWith (Outcome (Run task k budgets) bytes) (Document fault)
-document_fails task k budgets bytes documents.NoMemory is = inl record { status = refl; line = refl }
-document_fails task k budgets bytes (documents.NotUtf8 offset) is =
+document_refused task k budgets bytes documents.NoMemory is = inl record { status = refl; line = refl }
+document_refused task k budgets bytes (documents.NotUtf8 offset) is =
     inr record { low = omega arith; not_usage = λ is. omega (arith, is); high = omega arith; outcome = no_document task k budgets bytes (not_utf8 offset) is }
-document_fails task k budgets bytes (documents.At offset reason) is =
+document_refused task k budgets bytes (documents.At offset reason) is =
     inr record { low = omega arith; not_usage = λ is. omega (arith, is); high = omega arith; outcome = no_document task k budgets bytes (at offset reason) is }
-document_fails task k budgets bytes (documents.Truncated length) is =
+document_refused task k budgets bytes (documents.Truncated length) is =
     inr record { low = omega arith; not_usage = λ is. omega (arith, is); high = omega arith; outcome = no_document task k budgets bytes (truncated length) is }
-
-pub document_refused : (task : Task) (k : ℕ) (budgets : Budgets) (bytes front : List ℕ) (fault : DocFault) → front ≡ front_of task bytes
-    → NamesFirstFault fault front → FailsWith (Outcome (Run task k budgets) bytes) (Document fault)
-document_refused task k budgets bytes front fault same is = document_fails task k budgets bytes fault (subst (NamesFirstFault fault) same is)
 
 -- a document that ends before net k lacks it
 lacks : (document : Read) (k n : ℕ) → k ≡ suc n → length document.nets ≤ n → LacksNet document k
@@ -61,32 +57,28 @@ rule_fails task k budgets bytes document (rules.NoNet count) n spelled same is =
   outcome = no_net task k budgets bytes document (record { spelled = spelled; rules = is.0 }) (lacks document k n same is.2);
 }
 
-pub rules_broken : (task : Task) (k : ℕ) (budgets : Budgets) (bytes front : List ℕ) (document : Read) (refusal : Refusal) → front ≡ front_of task bytes
-    → DocBytes document front → IsRefusedNet document k refusal → FailsWith (Outcome (Run task k budgets) bytes) refusal
-rules_broken task k budgets bytes front document refusal same spelled is =
-    subst (FailsWith (Outcome (Run task k budgets) bytes)) (sym is.1)
-    (rule_fails task k budgets bytes document is.0 is.2 (subst (DocBytes document) same spelled) is.3 is.4)
+pub rules_broken : (task : Task) (k : ℕ) (budgets : Budgets) (bytes : List ℕ) (document : Read) (refusal : Refusal)
+    → DocBytes document (front_of task bytes) → IsRefusedNet document k refusal → FailsWith (Outcome (Run task k budgets) bytes) refusal
+rules_broken task k budgets bytes document refusal spelled is =
+    subst (FailsWith (Outcome (Run task k budgets) bytes)) (sym is.1) (rule_fails task k budgets bytes document is.0 is.2 spelled is.3 is.4)
 
 -- what holds of a value, or of a fault, gives what follows from it
-if_ok : {T E : Type 0} {P Q : T → Type 0} (result : Result T E) → ((value : T) → P value → Q value) → IfOk result P → IfOk result Q
+pub if_ok : {T E : Type 0} {P Q : T → Type 0} (result : Result T E) → ((value : T) → P value → Q value) → IfOk result P → IfOk result Q
 if_ok (Ok value) so is = so value is
 if_ok (Err fault) so is = tt
 
-if_err : {T E : Type 0} {P Q : E → Type 0} (result : Result T E) → ((fault : E) → P fault → Q fault) → IfErr result P → IfErr result Q
+pub if_err : {T E : Type 0} {P Q : E → Type 0} (result : Result T E) → ((fault : E) → P fault → Q fault) → IfErr result P → IfErr result Q
 if_err (Ok value) so is = tt
 if_err (Err fault) so is = so fault is
 
--- a text of the task is the outcome, and so is a refusal of the task
-module _ (task : Task) (k : ℕ) (budgets : Budgets) (bytes front rest : List ℕ) (document : Read) (net : NetLists) (result : Result (List ℕ) Refusal)
-    (front_is : front ≡ front_of task bytes) (rest_is : rest ≡ rest_of task bytes) (spelled : DocBytes document front)
+-- the answer of the task is the outcome, and so is a refusal of the task
+module _ (task : Task) (k : ℕ) (budgets : Budgets) (bytes rest : List ℕ) (document : Read) (net : NetLists)
+    (rest_is : rest ≡ rest_of task bytes) (spelled : DocBytes document (front_of task bytes))
     (flat : BreaksNoRule document × Flat document k net) where
-  answers : (status : ℕ) (text : List ℕ) → TaskOutcome task budgets document net rest status text → Outcome (Run task k budgets) bytes status text
-  answers status text is =
-      answer task k budgets bytes document net status text (record { spelled = subst (DocBytes document) front_is spelled; rules = flat.0 }) flat.1
+  pub task_answers : (status : ℕ) (text : List ℕ) → TaskOutcome task budgets document net rest status text → Outcome (Run task k budgets) bytes status text
+  task_answers status text is =
+      answer task k budgets bytes document net status text (record { spelled = spelled; rules = flat.0 }) flat.1
       (subst (λ (r : List ℕ). TaskOutcome task budgets document net r status text) rest_is is)
 
-  pub task_answered : IfOk result (TaskOutcome task budgets document net rest 0) → IfOk result (Outcome (Run task k budgets) bytes 0)
-  task_answered = if_ok result (λ text is. answers 0 text is)
-
-  pub task_failed : IfErr result (FailsWith (TaskOutcome task budgets document net rest)) → IfErr result (FailsWith (Outcome (Run task k budgets) bytes))
-  task_failed = if_err result (λ refusal. fails_so _ _ refusal answers)
+  pub task_fails : (refusal : Refusal) → FailsWith (TaskOutcome task budgets document net rest) refusal → FailsWith (Outcome (Run task k budgets) bytes) refusal
+  task_fails refusal = fails_so _ _ refusal task_answers

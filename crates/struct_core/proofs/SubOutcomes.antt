@@ -1,6 +1,6 @@
 -- What is told of the sub-semiflows of a net: the list's text, or the step of the elimination that fails first. One of these
 -- comes where the elimination is decided, and one only.
-use Rattle.std.proofs.Common.{◌≡◌, ◌⊎◌, ◌∙◌, refl, sym, ap, subst, ℕ, List, map, take, inl, inr, Result, IsErrAnd, IfErr}
+use Rattle.std.proofs.Common.{◌≡◌, refl, sym, ap, subst, ℕ, List, map, take, inl, inr}
 use Rattle.std.specs.Cmp.Lexicographic.{slice_cmp}
 use Rattle.std.specs.Ordering.{nat_cmp}
 use Rattle.net_values.specs.Net.{Net}
@@ -14,7 +14,6 @@ use Rattle.report.specs.declared.refusal.Refusal.{Refusal}
 use Rattle.struct_core.specs.Answers.{FailsWith}
 use Rattle.struct_core.specs.Determined.{IsEliminationDecided}
 use Rattle.struct_core.specs.Enumerations.{AreListed, FailedStep}
-use Rattle.struct_core.specs.Completeness.{NoStepFails}
 use Rattle.struct_core.specs.SubSemiflows.{SubOutcome, all_sub_semiflows, no_sub_semiflows}
 use Rattle.struct_core.proofs.Listing.{fails_so}
 use Rattle.struct_core.proofs.OneListing.{failing, one_failure, listed_or_fails}

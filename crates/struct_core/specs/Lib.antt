@@ -19,4 +19,5 @@ pub mod Laws
 -- The way from the words and the calls to them. Only clauses of private functions and lemmas cite these.
 pub mod WordReading
 pub mod Answers
+pub mod Intaking
 pub mod Obtaining

@@ -1,13 +1,14 @@
-ghost use Rattle.std.specs.Prelude.{◌≤◌, IfOk, IfErr};
+ghost use Rattle.std.specs.Prelude.{◌≤◌, ℕ, List, IfOk, IfErr};
 ghost use Rattle.pnml_grammar.specs.Valued.{Valued};
 ghost use Rattle.page_flatten.specs.Rules.{BreaksNoRule};
 ghost use Rattle.page_flatten.specs.Flat.{Flat};
 ghost use Rattle.struct_core.specs.declared.order.Order.{Order as Ordered};
 ghost use Rattle.struct_core.specs.Outcome.{Outcome, TaskOutcome};
 ghost use Rattle.struct_core.specs.Answers.{FailsWith, IsRefusedNet};
+ghost use Rattle.struct_core.specs.Intaking.{HasTaken};
 
 use crate::certified::{bounds_certified, verdict_certified};
-use crate::inputs::split;
+use crate::intake::Intake;
 use crate::order::{Budgets, Task};
 use crate::place_bounds::bound_report;
 use crate::replays::replay_report;
@@ -20,28 +21,36 @@ use crate::verified::verify_report;
 use net_class::class;
 use net_values::{Document, FlatNet, NodeKind, Text};
 use page_flatten::flatten;
-use pnml_decode::decode;
 use pnml_write::canonical;
 use report::{Refusal, check_text, class_text};
 use std::alloc::Global;
 
-/// The text of a task for the net of this number, from 1, in the document of an input.
+/// The text of a task for the net of this number, from 1, in the document of the input that was taken.
 pub(crate) fn answer(
     alloc: Global,
     task: Task,
     k: u32,
     budgets: Budgets,
-    bytes: &[u8],
+    intake: Intake,
 ) -> Result<Text, Refusal>
     requires net { 1 ≤ k }
     requires sets { 1 ≤ budgets.sets }
-    ensures text { IfOk result (Outcome (Ordered.Run task k budgets) bytes.now 0) }
-    ensures refused { IfErr result (FailsWith (Outcome (Ordered.Run task k budgets) bytes.now)) }
+    requires taken { (bytes : List ℕ) × HasTaken task intake bytes }
+    ensures text { IfOk result (λ text. (bytes : List ℕ) → HasTaken task intake bytes →
+        Outcome (Ordered.Run task k budgets) bytes 0 text) }
+    ensures refused { IfErr result (λ refusal. (bytes : List ℕ) → HasTaken task intake bytes →
+        FailsWith (Outcome (Ordered.Run task k budgets) bytes) refusal) }
 {
-    let (front, rest) = split(task, bytes);
-    let document = decode(alloc, front)?;
+    let document = intake.decoder.finish()?;
     let net = chosen_net(alloc, k, &document)?;
-    text_of(alloc, task, budgets, &document, &net, rest)
+    text_of(
+        alloc,
+        task,
+        budgets,
+        &document,
+        &net,
+        intake.rest.as_slice(),
+    )
 }
 
 /// The flat net of the net of this number, from 1, in a document.

@@ -3,11 +3,12 @@
 
 mod answer;
 mod certified;
-mod inputs;
+mod intake;
 mod laws;
 mod order;
 mod philosophers;
 mod place_bounds;
+mod reading;
 mod replays;
 mod resumes;
 mod running;

@@ -6,10 +6,11 @@ ghost use Rattle.struct_core.specs.Obtaining.{HasText, EndsBy};
 
 use crate::answer::answer;
 use crate::order::Order;
+use crate::reading::read_input;
 use crate::sample::sample_report;
 use crate::words::{Words, read_words};
-use net_values::{MAX_INPUT_BYTES, Text};
-use pnml_source::{Sink, Source, read_all, write_all};
+use net_values::Text;
+use pnml_source::{Sink, Source, write_all};
 use report::{Refusal, status, tell};
 use std::alloc::Global;
 
@@ -23,8 +24,8 @@ fn obtain<S: Source>(alloc: Global, order: Order, source: &mut S) -> Result<Text
 {
     match order {
         Order::Run(task, net, budgets) => {
-            let bytes = read_all(alloc, source, MAX_INPUT_BYTES)?;
-            answer(alloc, task, net, budgets, bytes.as_slice())
+            let intake = read_input(alloc, task, source)?;
+            answer(alloc, task, net, budgets, intake)
         }
         Order::Sample(n) => sample_report(alloc, n),
     }

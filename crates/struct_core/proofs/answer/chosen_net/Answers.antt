@@ -1,6 +1,5 @@
 -- The nets are counted from 1 here, and from 0 there.
 use Rattle.std.proofs.Common.{◌≡◌, ◌+◌, ◌-◌, subst, refl, suc, arith}
-use Rattle.net_values.specs.FlatNets.{NetLists}
 use Rattle.page_flatten.specs.Flat.{Flat}
 use Rattle.struct_core.proofs.answer.chosen_net.Goals as goal
 

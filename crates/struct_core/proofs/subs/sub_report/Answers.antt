@@ -1,6 +1,6 @@
 -- The text of the list, or the step that fails.
-use Rattle.std.proofs.Common.{◌≡◌, ◌∙◌, ap, sym, subst, ℕ}
-use Rattle.incidence.specs.Matrix.{Matrix, extended_of}
+use Rattle.std.proofs.Common.{ap, sym, subst}
+use Rattle.incidence.specs.Matrix.{Matrix}
 use Rattle.net_values.specs.FlatNets.{net_of}
 use Rattle.net_values.specs.Nodes.{place_id, transition_id}
 use Rattle.semiflow_elim.specs.FirstFail.{IsExplained}
