@@ -1,10 +1,10 @@
--- An empty tag of ASCII with at most two attributes, whose values represent themselves: what reading gives of it.
-use Rattle.std.proofs.Common.{◌≡◌, ℕ, Bool, true, false, List, [], ◌∷◌, Option, Some, None, Bor, refl, sym, ap, ◌∙◌, arith}
-use Rattle.std.specs.Prelude.{◌==◌, bytes_eq, codes, option_copied, IfSome}
-use Rattle.std.specs.List.{list_all}
-use Rattle.std.proofs.lemmas.Bool.{and_parts}
+-- An empty tag of ASCII with few attributes, whose values represent themselves: what reading gives of it.
+use Rattle.std.proofs.Common.{◌≡◌, ℕ, Bool, true, false, List, [], ◌∷◌, ◌++◌, ◌+◌, ◌<◌, ◌≤◌, Option, Some, None, Bor, length, length-set, take, set, map, subst, refl, sym, ap, ◌∙◌, arith}
+use Rattle.std.specs.Prelude.{◌==◌, codes, option_copied, IfSome}
+use Rattle.std.specs.List.{list_all, AllByRecursion}
+use Rattle.std.proofs.lemmas.Bool.{and_parts, and_from}
 use Rattle.std.proofs.lemmas.Bool.Decides.{nat_tests}
-use Rattle.std.proofs.lemmas.List.{append-nil}
+use Rattle.std.proofs.lemmas.List.{append-nil, take_more_set, map_push}
 use Rattle.std.proofs.lemmas.Str.{is_utf8-from_IsUtf8, IsUtf8-from_ascii}
 use Rattle.pnml_grammar.specs.declared.token.Attribute.{Attribute}
 use Rattle.pnml_grammar.specs.declared.token.Token.TheVariants.{Empty}
@@ -12,16 +12,19 @@ use Rattle.pnml_grammar.specs.Characters.{Each, is_space}
 use Rattle.pnml_grammar.specs.Names.{is_name_start}
 use Rattle.pnml_grammar.specs.Declarations.{RawAttribute}
 use Rattle.pnml_grammar.specs.Runs.{beyond, past, past_text}
-use Rattle.pnml_grammar.specs.Reading.{name_at, raw_attribute_at, all_raw_attributes_at, attribute_of, attributes_of, distinct_attributes_of, tag_at, tag_closed, markup_at, shape_at, before_rest, is_spelling, token_from}
+use Rattle.pnml_grammar.specs.Reading.{name_at, raw_attribute_at, all_raw_attributes_at, attribute_of, attributes_of, distinct_attributes_of, are_new, raw_attribute_name, tag_at, tag_closed, markup_at, shape_at, before_rest, is_spelling, token_from}
 use Rattle.pnml_grammar.specs.Resolving.{text_of, value_of, resolved, literal}
 use Rattle.pnml_grammar.proofs.RunLaws.{past_found, chosen}
 use Rattle.pnml_grammar.proofs.TagLaws.{tag_made}
-use Rattle.pnml_token.specs.declared.runs.ByteClass.TheVariants.{Plain}
+use Rattle.pnml_grammar.proofs.EachLaws.{each_append}
+use Rattle.pnml_token.specs.declared.attributes.RawAttribute.{RawAttribute as Lent}
+use Rattle.pnml_token.specs.Views.{view, views}
+use Rattle.pnml_token.specs.declared.runs.ByteClass.TheVariants.{Plain, Literal}
 use Rattle.pnml_token.specs.ByteClasses.{in_class, is_plain_byte}
 use Rattle.pnml_token.specs.EmptyTags.{HasReading, HasSimpleAttributes, ReadsEmptyTag, IsEmptyTag}
 use Rattle.pnml_token.proofs.LegalTexts.{plain_are_ascii}
 use Rattle.pnml_token.proofs.PieceLaws.{literal_run, resolved_run}
-use Rattle.pnml_token.proofs.RawAttributes.{loop_begins, loop_goes_on, loop_ends}
+use Rattle.pnml_token.proofs.RawAttributes.{Loops, loop_begins, loop_goes_on, loop_ends}
 
 -- ---- an attribute
 
@@ -33,51 +36,79 @@ each_of_all : (p : ℕ → Bool) (bytes : List ℕ) → list_all p bytes ≡ tru
 each_of_all p [] all = tt
 each_of_all p (b ∷ bytes) all = let both = and_parts (p b) (list_all p bytes) all in (both.0, each_of_all p bytes both.1)
 
-itself : (body : List ℕ) → list_all (in_class (Plain true)) body ≡ true → resolved (literal true body) ≡ Some body
-itself body all =
-    let each = each_of_all (in_class (Plain true)) body all in
-    ap (λ (t : List ℕ). resolved (literal true t)) (sym (append-nil body))
-    ∙ ap resolved (literal_run true body [] each)
-    ∙ resolved_run true body [] each
+none_literal : (spaces : Bool) → literal spaces [] ≡ []
+none_literal true = refl
+none_literal false = refl
+
+pub itself : (spaces : Bool) (body : List ℕ) → list_all (in_class (Plain spaces)) body ≡ true → resolved (literal spaces body) ≡ Some body
+itself spaces body all =
+    let each = each_of_all (in_class (Plain spaces)) body all in
+    ap (λ (t : List ℕ). resolved (literal spaces t)) (sym (append-nil body))
+    ∙ ap resolved (literal_run spaces body [] each)
+    ∙ ap (λ (t : List ℕ). resolved (body ++ t)) (none_literal spaces)
+    ∙ resolved_run spaces body [] each
     ∙ ap (λ (t : List ℕ). Some t) (append-nil body)
 
 value_is : (body : List ℕ) → list_all is_plain_byte body ≡ true → list_all (in_class (Plain true)) body ≡ true → value_of true body ≡ Some body
 unfolding value_of
-value_is body plain all = rw (plain_is_read body plain) (itself body all)
+value_is body plain all = rw (plain_is_read body plain) (itself true body all)
 
-pub simple_is_read : (s : RawAttribute) → list_all is_plain_byte s.name ≡ true → list_all is_plain_byte s.body ≡ true → list_all (in_class (Plain true)) s.body ≡ true → HasReading s
+literal_is_plain : (b : ℕ) → in_class Literal b ≡ true → (is_plain_byte b ≡ true) × (in_class (Plain true) b ≡ true)
+literal_is_plain b e = (grind (arith, nat_tests), grind (arith, nat_tests))
+
+literal_are_plain : (bytes : List ℕ) → list_all (in_class Literal) bytes ≡ true → (list_all is_plain_byte bytes ≡ true) × (list_all (in_class (Plain true)) bytes ≡ true)
+literal_are_plain [] all = (refl, refl)
+literal_are_plain (b ∷ bytes) all =
+    let p = and_parts (in_class Literal b) (list_all (in_class Literal) bytes) all in
+    let first = literal_is_plain b p.0 in
+    let rest = literal_are_plain bytes p.1 in
+    (and_from (is_plain_byte b) (list_all is_plain_byte bytes) first.0 rest.0, and_from (in_class (Plain true) b) (list_all (in_class (Plain true)) bytes) first.1 rest.1)
+
+pub simple_is_read : (s : RawAttribute) → list_all is_plain_byte s.name ≡ true → list_all (in_class Literal) s.body ≡ true → HasReading s
 unfolding attribute_of
-simple_is_read s name body all = (record { name = s.name; value = s.body }, rw (plain_is_read s.name name, value_is s.body body all) refl)
+simple_is_read s name body =
+    let plain = literal_are_plain s.body body in
+    (record { name = s.name; value = s.body }, rw (plain_is_read s.name name, value_is s.body plain.0 plain.1) refl)
 
--- ---- at most two attributes
+-- ---- few attributes
 
-distinct_none : distinct_attributes_of [] ≡ Some []
-unfolding distinct_attributes_of attributes_of
-distinct_none = refl
+read_all : (raw_attributes : List RawAttribute) → AllByRecursion HasReading raw_attributes → (attributes : List Attribute) × (attributes_of raw_attributes ≡ Some attributes)
+unfolding attributes_of
+read_all [] each = ([], refl)
+read_all (s ∷ raw_attributes) each = let more = read_all raw_attributes each.1 in (each.0.0 ∷ more.0, rw (each.0.1, more.1) refl)
 
-distinct_one : (s : RawAttribute) (a : Attribute) → attribute_of s ≡ Some a → distinct_attributes_of (s ∷ []) ≡ Some (a ∷ [])
-unfolding distinct_attributes_of attributes_of
-distinct_one s a read = rw read refl
+distinct_are_read : (raw_attributes : List RawAttribute) → AllByRecursion HasReading raw_attributes → are_new [] (map raw_attribute_name raw_attributes) ≡ true
+    → (attributes : List Attribute) × (distinct_attributes_of raw_attributes ≡ Some attributes)
+unfolding distinct_attributes_of
+distinct_are_read raw_attributes each new = let read = read_all raw_attributes each in (read.0, rw new read.1)
 
-distinct_two : (s t : RawAttribute) (a b : Attribute) → attribute_of s ≡ Some a → attribute_of t ≡ Some b → bytes_eq t.name s.name ≡ false → distinct_attributes_of (s ∷ t ∷ []) ≡ Some (a ∷ b ∷ [])
-unfolding distinct_attributes_of attributes_of
-distinct_two s t a b first second apart = rw (apart, first, second) refl
+-- so many attributes are gathered, each is read, and the others occur in the rest
+pub record Gathers (raw_attributes : List Lent) (count : ℕ) (rest bytes : List ℕ) : Type 0 where
+  pub few : count ≤ length raw_attributes
+  pub each : AllByRecursion HasReading (views (take count raw_attributes))
+  pub loops : Loops (views (take count raw_attributes)) rest bytes
 
-pub none_read : (bytes : List ℕ) → raw_attribute_at bytes ≡ None → HasSimpleAttributes bytes bytes
-none_read bytes none =
-    let all = loop_ends [] bytes bytes none (loop_begins bytes) in
-    ([], ap (λ (found : List RawAttribute × List ℕ). distinct_attributes_of found.0) (sym all) ∙ distinct_none, ap (λ (found : List RawAttribute × List ℕ). found.1) (sym all))
+pub gathers_none : (raw_attributes : List Lent) (bytes : List ℕ) → Gathers raw_attributes 0 bytes bytes
+gathers_none raw_attributes bytes = record { few = omega arith; each = tt; loops = loop_begins bytes }
 
-pub one_read : (bytes : List ℕ) (s : RawAttribute) (rest : List ℕ) → raw_attribute_at bytes ≡ Some (s, rest) → HasReading s → raw_attribute_at rest ≡ None → HasSimpleAttributes bytes rest
-one_read bytes s rest first read none =
-    let all = loop_ends (s ∷ []) rest bytes none (loop_goes_on [] bytes bytes s rest first (loop_begins bytes)) in
-    (read.0 ∷ [], ap (λ (found : List RawAttribute × List ℕ). distinct_attributes_of found.0) (sym all) ∙ distinct_one s read.0 read.1, ap (λ (found : List RawAttribute × List ℕ). found.1) (sym all))
+pub gathers_more : (raw_attributes : List Lent) (count : ℕ) (s : Lent) (rest beyond bytes : List ℕ) → count < length raw_attributes → raw_attribute_at rest ≡ Some (view s, beyond) → HasReading (view s)
+    → Gathers raw_attributes count rest bytes → Gathers (set raw_attributes count s) (count + 1) beyond bytes
+gathers_more raw_attributes count s rest beyond bytes lt found read h =
+    let more : views (take (count + 1) (set raw_attributes count s)) ≡ views (take count raw_attributes) ++ view s ∷ [] =
+    ap views (take_more_set raw_attributes count s lt) ∙ map_push view (take count raw_attributes) s
+    in
+    record {
+      few = omega (arith, lt, length-set raw_attributes count s);
+      each = subst (AllByRecursion HasReading) (sym more) (each_append HasReading (views (take count raw_attributes)) (view s ∷ []) h.each (read, tt));
+      loops = subst (λ (front : List RawAttribute). Loops front beyond bytes) (sym more) (loop_goes_on (views (take count raw_attributes)) rest bytes (view s) beyond found h.loops);
+    }
 
-pub two_read : (bytes : List ℕ) (s : RawAttribute) (between : List ℕ) (t : RawAttribute) (rest : List ℕ) → raw_attribute_at bytes ≡ Some (s, between) → HasReading s → raw_attribute_at between ≡ Some (t, rest) → HasReading t
-    → bytes_eq t.name s.name ≡ false → raw_attribute_at rest ≡ None → HasSimpleAttributes bytes rest
-two_read bytes s between t rest first read second also apart none =
-    let all = loop_ends (s ∷ t ∷ []) rest bytes none (loop_goes_on (s ∷ []) between bytes t rest second (loop_goes_on [] bytes bytes s between first (loop_begins bytes))) in
-    (read.0 ∷ also.0 ∷ [], ap (λ (found : List RawAttribute × List ℕ). distinct_attributes_of found.0) (sym all) ∙ distinct_two s t read.0 also.0 read.1 also.1 apart, ap (λ (found : List RawAttribute × List ℕ). found.1) (sym all))
+pub gathers_all : (raw_attributes : List Lent) (count : ℕ) (rest bytes : List ℕ) → raw_attribute_at rest ≡ None → are_new [] (map raw_attribute_name (views (take count raw_attributes))) ≡ true
+    → Gathers raw_attributes count rest bytes → HasSimpleAttributes bytes rest
+gathers_all raw_attributes count rest bytes none new h =
+    let all = loop_ends (views (take count raw_attributes)) rest bytes none h.loops in
+    let read = distinct_are_read (views (take count raw_attributes)) h.each new in
+    (read.0, ap (λ (found : List RawAttribute × List ℕ). distinct_attributes_of found.0) (sym all) ∙ read.1, ap (λ (found : List RawAttribute × List ℕ). found.1) (sym all))
 
 -- ---- the tag
 

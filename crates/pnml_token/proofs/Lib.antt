@@ -11,6 +11,7 @@ pub mod LegalTexts
 pub mod Windows
 pub mod Endings
 pub mod EmptyTags
+pub mod PassedCharacters
 pub mod ScanLaws
 pub mod ScanRuns
 pub mod SpelledEnds

@@ -30,7 +30,7 @@ end_more : (rest more : List ℕ) → IsTextEnd rest → (rest ≡ [] → more �
 end_more [] more ends none = subst IsTextEnd (sym (none refl)) tt
 end_more (b ∷ bs) more ends none = ends
 
-follow_more : (token : Token) (rest more : List ℕ) → MayFollow token rest → (rest ≡ [] → more ≡ []) → MayFollow token (rest ++ more)
+pub follow_more : (token : Token) (rest more : List ℕ) → MayFollow token rest → (rest ≡ [] → more ≡ []) → MayFollow token (rest ++ more)
 follow_more (Characters value) rest more follows none = end_more rest more follows none
 follow_more Declaration rest more follows none = tt
 follow_more Comment rest more follows none = tt

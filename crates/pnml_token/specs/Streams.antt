@@ -2,7 +2,7 @@
 use Rattle.std.specs.Prelude.{◌≡◌, ℕ, ◌+◌, List, [], ◌++◌, Option, None, Some, length, take, drop}
 use Rattle.pnml_grammar.specs.declared.token.Attribute.{Attribute}
 use Rattle.pnml_grammar.specs.declared.token.Token.{Token}
-use Rattle.pnml_grammar.specs.declared.token.Token.TheVariants.{Empty}
+use Rattle.pnml_grammar.specs.declared.token.Token.TheVariants.{Empty, Characters}
 use Rattle.pnml_grammar.specs.Tokens.{Occurs}
 use Rattle.pnml_grammar.specs.Reasons.{reason_without_token}
 use Rattle.pnml_token.specs.declared.token.TokenFault.{TokenFault}
@@ -48,6 +48,10 @@ Settles held piece taken token = (more : List ℕ) → Occurs (held ++ (piece ++
 abbrev pub PassesEmptyTag : List ℕ → List ℕ → ℕ → Type 0
 PassesEmptyTag held piece taken =
     (held ≡ []) × (name : List ℕ) × (attributes : List Attribute) × Settles held piece taken (Empty name attributes)
+
+-- the same of characters
+abbrev pub PassesCharacters : List ℕ → List ℕ → ℕ → Type 0
+PassesCharacters held piece taken = (held ≡ []) × (value : List ℕ) × Settles held piece taken (Characters value)
 
 -- the token occurs at the front
 abbrev pub Begins : List ℕ → Token → Type 0

@@ -13,7 +13,7 @@ use std::alloc::Global;
 use std::collections::BTreeSet;
 
 /// Up to so many names are compared each with each; of more a set is made.
-const FEW_NAMES: usize = 8;
+pub(crate) const FEW_NAMES: usize = 8;
 
 /// An attribute as it is written: its name, and what is between its quotes.
 #[derive(Clone, Copy)]
@@ -79,7 +79,7 @@ fn are_distinct(alloc: Global, raw_attributes: &[RawAttribute<'_>]) -> Result<bo
     }
 }
 
-fn are_few_distinct(raw_attributes: &[RawAttribute<'_>]) -> bool
+pub(crate) fn are_few_distinct(raw_attributes: &[RawAttribute<'_>]) -> bool
     ensures { result ≡ are_new [] (map raw_attribute_name (views raw_attributes.now)) }
 {
     for i in 0..raw_attributes.len() {

@@ -1,14 +1,14 @@
-//! Empty tags that are told to be there without memory: those of ASCII with at most two attributes, in whose values
-//! nothing is to be resolved. Most tags of graphics are so.
+//! Empty tags that are told to be there without memory: those of ASCII with few attributes, in whose values nothing
+//! is to be resolved. Most tags of graphics are so.
 
 ghost use Rattle.std.specs.Prelude.{◌≤◌, IfSome, IsTrue, length};
 ghost use Rattle.pnml_token.specs.EmptyTags.{HasReading, HasSimpleAttributes, IsEmptyTag, ReadsEmptyTag, StartsWithEmptyTag};
 ghost use Rattle.pnml_token.specs.Steps.{EndsEmptyTag};
 ghost use Rattle.pnml_token.specs.Views.{view};
 
-use crate::attributes::{RawAttribute, raw_attribute_of};
+use crate::attributes::{FEW_NAMES, RawAttribute, are_few_distinct, raw_attribute_of};
 use crate::legality::{are_plain, is_spelling};
-use crate::runs::{ByteClass, are_all, name_of, past, past_space};
+use crate::runs::{ByteClass, has_all, name_of, past, past_space};
 use crate::token::window_length;
 
 /// The end of the empty tag at the offset `offset` of the bytes, where one is there that is told without memory. It
@@ -56,25 +56,28 @@ fn empty_tag_of(bytes: &[u8]) -> Option<&[u8]>
     past(b'>', rest)
 }
 
-/// What follows the attributes, where there are at most two and both are simple.
+/// What follows the attributes, where there are few and all are simple.
 fn past_simple_attributes(bytes: &[u8]) -> Option<&[u8]>
     ensures { IfSome result (λ rest. HasSimpleAttributes bytes.now rest.now) }
 {
-    let Some((first, after_first)) = raw_attribute_of(bytes) else {
-        return Some(bytes);
-    };
-    if !is_simple(&first) {
-        return None;
+    let mut raw_attributes = [RawAttribute {
+        name: bytes,
+        body: bytes,
+    }; FEW_NAMES];
+    let mut count = 0;
+    let mut rest = bytes;
+    'more: while let Some((raw_attribute, beyond)) = raw_attribute_of(rest) {
+        if count == FEW_NAMES || !is_simple(&raw_attribute) {
+            return None;
+        }
+        raw_attributes[count] = raw_attribute;
+        count += 1;
+        rest = beyond;
     }
-    let Some((second, after_second)) = raw_attribute_of(after_first) else {
-        return Some(after_first);
-    };
-    if !is_simple(&second) || second.name == first.name {
-        return None;
-    }
-    match raw_attribute_of(after_second) {
-        None => Some(after_second),
-        Some(_) => None,
+    if are_few_distinct(&raw_attributes[..count]) {
+        Some(rest)
+    } else {
+        None
     }
 }
 
@@ -82,8 +85,5 @@ fn past_simple_attributes(bytes: &[u8]) -> Option<&[u8]>
 fn is_simple(raw_attribute: &RawAttribute<'_>) -> bool
     ensures { IsTrue result → HasReading (view raw_attribute.now) }
 {
-    if !are_plain(raw_attribute.name) || !are_plain(raw_attribute.body) {
-        return false;
-    }
-    are_all(ByteClass::Plain(true), raw_attribute.body)
+    are_plain(raw_attribute.name) && has_all(ByteClass::Literal, raw_attribute.body)
 }

@@ -6,6 +6,7 @@
 #![tactic(auto)]
 
 mod attributes;
+mod characters;
 mod empty_tags;
 mod fed;
 mod held;

@@ -29,6 +29,8 @@ pub(crate) enum ByteClass {
     /// What a value copies: no carriage return and no reference, and no other white space but spaces where
     /// white space becomes spaces.
     Plain(bool),
+    /// What a value of an attribute copies, in ASCII: from the space on, and no reference.
+    Literal,
     /// What only legal characters have in UTF-8: no control character but three, and no `#xEF`, with which the
     /// characters begin that aren't legal beyond ASCII.
     Common,
@@ -112,6 +114,7 @@ fn has(class: ByteClass, byte: u8) -> bool
         ByteClass::Reference => byte.is_ascii_alphanumeric() || byte == b'#',
         ByteClass::Line => byte != b'\r',
         ByteClass::Plain(spaces) => is_plain(spaces, byte),
+        ByteClass::Literal => 32 <= byte && byte < 128 && byte != b'&',
         ByteClass::Common => is_common(byte),
     }
 }

@@ -5,8 +5,9 @@ ghost use Rattle.std.specs.Prelude.{◌≡◌, ◌^◌, ◌+◌, ◌<◌, ◌≤
 ghost use Rattle.net_values.specs.declared.limits.TheConstants.{MAX_TOKEN_BYTES};
 ghost use Rattle.pnml_grammar.specs.Tokens.{Occurs};
 ghost use Rattle.pnml_token.specs.Steps.{IfBadToken, is_characters};
-ghost use Rattle.pnml_token.specs.Streams.{Live, Refused, next_offset, held_bytes, fed_bytes, IfLive, IfRefused, Settles, PassesEmptyTag, IsUnsettled, HasNoToken, IsHopeless, TellsReason};
+ghost use Rattle.pnml_token.specs.Streams.{Live, Refused, next_offset, held_bytes, fed_bytes, IfLive, IfRefused, Settles, PassesEmptyTag, PassesCharacters, IsUnsettled, HasNoToken, IsHopeless, TellsReason};
 
+use crate::characters::characters_length;
 use crate::empty_tags::past_empty_tag;
 use crate::fed::Fed;
 use crate::held::HeldBytes;
@@ -104,6 +105,23 @@ impl Tokens {
             return None;
         }
         let taken = past_empty_tag(piece, 0)?;
+        self.offset += taken as u64;
+        Some(taken)
+    }
+
+    /// The same of characters in which nothing is to be resolved, with the `<` after them in the piece.
+    pub fn pass_characters(&mut self, piece: &[u8]) -> Option<usize>
+        requires { fed_bytes self.old + length piece.now < 2 ^ 63 }
+        ensures characters { IfSome result (λ taken. PassesCharacters (held_bytes self.old) piece.now taken) }
+        ensures after { IfSome result (λ taken. self.new ≡ Live (fed_bytes self.old + taken) []) }
+        ensures ahead { IfSome result (λ taken. next_offset self.old < fed_bytes self.old + taken) }
+        ensures taken { IfSome result (λ taken. taken ≤ length piece.now) }
+        ensures none { IfNone result (self.new ≡ self.old) }
+    {
+        if self.refusal.is_some() || self.held.len() != 0 {
+            return None;
+        }
+        let taken = characters_length(piece)?;
         self.offset += taken as u64;
         Some(taken)
     }

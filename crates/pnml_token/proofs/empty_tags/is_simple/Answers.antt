@@ -3,5 +3,5 @@ use Rattle.pnml_token.specs.Views.{view}
 use Rattle.pnml_token.proofs.EmptyTags.{simple_is_read}
 use Rattle.pnml_token.proofs.empty_tags.is_simple.Goals as goal
 
-pub returns : goal.returns
-returns c = λ yes. simple_is_read (view c.args.raw_attribute.now) (sym c.are_plain.ensures ∙ c.if-not-are_plain.false) (sym c.are_plain-else-not-are_plain.ensures ∙ c.if-not-are_plain-2.false) (sym c.are_all.ensures ∙ yes)
+pub returns-then-are_plain : goal.returns-then-are_plain
+returns-then-are_plain c = λ holds. simple_is_read (view c.args.raw_attribute.now) (sym c.are_plain.ensures ∙ c.if-are_plain.true) (sym c.has_all.ensures ∙ holds)
