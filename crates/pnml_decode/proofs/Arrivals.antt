@@ -10,7 +10,6 @@ use Rattle.pnml_grammar.specs.declared.reason.Reason.{Reason}
 use Rattle.pnml_grammar.specs.declared.reason.Reason.TheVariants.{BadToken, Doctype}
 use Rattle.pnml_grammar.specs.declared.token.Token.{Token}
 use Rattle.pnml_grammar.specs.declared.token.Token.TheVariants as tokens
-use Rattle.pnml_grammar.specs.declared.token.Token.TheVariants.{Empty}
 use Rattle.pnml_grammar.specs.Tokens.{Occurs, TokenAt, first_offset}
 use Rattle.pnml_grammar.specs.FirstFault.{FirstFault, at, truncated, HasNoToken}
 use Rattle.pnml_grammar.specs.Machine.{start}
@@ -21,15 +20,15 @@ use Rattle.pnml_grammar.proofs.FaultLaws.{whole_is_truncated}
 use Rattle.pnml_grammar.proofs.OffsetLaws.{token_goes_on, token_end_inside}
 use Rattle.pnml_grammar.proofs.ReadToLaws.{declaration_is_read, nothing_is_read}
 use Rattle.pnml_grammar.proofs.TokenLaws.{one_token_occurs}
-use Rattle.pnml_token.specs.Streams.{State, Live, Refused, fed_bytes, held_bytes, next_offset, IfLive, PassesEmptyTag, Settles, IsHopeless, HasNoToken as LacksToken, TellsReason}
+use Rattle.pnml_token.specs.Streams.{State, Live, Refused, fed_bytes, held_bytes, next_offset, IfLive, Settles, IsHopeless, HasNoToken as LacksToken, TellsReason}
 use Rattle.pnml_decode.specs.declared.fault.DocFault.TheVariants as refusals
 use Rattle.pnml_decode.specs.declared.progress.Stage.{Stage}
 use Rattle.pnml_decode.specs.declared.progress.Stage.TheVariants as stages
 use Rattle.pnml_decode.specs.Standing.{HasRead, Holds, FollowsBy, IfAtMark, IfReads, front_length, is_declared, is_past_mark, is_reading}
 use Rattle.pnml_decode.proofs.Characters.{mark_is_told}
-use Rattle.pnml_decode.specs.Taking.{Skips}
+use Rattle.pnml_decode.specs.Taking.{Skips, PassesIdle}
 use Rattle.pnml_decode.proofs.LoopLaws.{missing_is_first, missing_in_front, token_goes_on_read}
-use Rattle.pnml_decode.proofs.SkippedTags.{skipped_is_taken}
+use Rattle.pnml_decode.proofs.SkippedTags.{idle_is_taken}
 
 -- ---- stages
 
@@ -373,19 +372,19 @@ pub on_ok : {X E : Type 0} (r : Result X E) (P Q : Type 0) → (P → Q) → OnO
 on_ok (Ok x) P Q f h = f h
 on_ok (Err e) P Q f h = tt
 
--- ---- empty tags in skipped parts
+-- ---- tokens that change nothing in skipped parts
 
--- such a tag is passed where nothing is held, and changes nothing
-pub tag_follows : (opened : Opened) (tokens tokens' : State) (skipped : ℕ) (front bytes ahead : List ℕ) (taken : ℕ) → Skips opened → tokens' ≡ Live (fed_bytes tokens + taken) [] → taken ≤ length ahead
-    → PassesEmptyTag (held_bytes tokens) ahead taken
+-- such a token is passed where nothing is held, and changes nothing
+pub idle_follows : (opened : Opened) (tokens tokens' : State) (skipped : ℕ) (front bytes ahead : List ℕ) (taken : ℕ) → Skips opened → tokens' ≡ Live (fed_bytes tokens + taken) [] → taken ≤ length ahead
+    → PassesIdle (held_bytes tokens) ahead taken
     → FollowsBy stages.Going opened tokens skipped front bytes ahead → FollowsBy stages.Going opened tokens' skipped front bytes (drop taken ahead)
-tag_follows opened tokens tokens' skipped front bytes ahead taken skips live' within tag follows =
+idle_follows opened tokens tokens' skipped front bytes ahead taken skips live' within idle follows =
     let h : Holds tokens skipped front bytes follows.before ahead = follows.holds in
-    let nothing : h.held ≡ [] = sym (ap held_bytes h.live) ∙ tag.0 in
+    let nothing : h.held ≡ [] = sym (ap held_bytes h.live) ∙ idle.0 in
     let none : front ≡ [] = h.front_is ∙ ap (take front_length) nothing in
-    token_follows stages.Going stages.Going opened opened tokens tokens' skipped front front bytes ahead taken (skipped + next_offset tokens) (Empty tag.1 tag.2)
-    refl refl live' none refl within tag.3
-    (λ input e read occurs. (token_goes_on_read input (skipped + next_offset tokens) opened opened (Empty tag.1 tag.2) e read occurs (skipped_is_taken opened tag.1 tag.2 skips)).0)
+    token_follows stages.Going stages.Going opened opened tokens tokens' skipped front front bytes ahead taken (skipped + next_offset tokens) idle.1
+    refl refl live' none refl within idle.3
+    (λ input e read occurs. (token_goes_on_read input (skipped + next_offset tokens) opened opened idle.1 e read occurs (idle_is_taken opened idle.1 idle.2 skips)).0)
     follows
 
 pub if_ok : {X E : Type 0} (r : Result X E) (P Q : X → Type 0) → ((x : X) → P x → Q x) → IfOk r P → IfOk r Q

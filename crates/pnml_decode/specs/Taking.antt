@@ -1,17 +1,19 @@
 -- What the reader says of a token: it takes the token where no test holds, and names the reason of the first
 -- that does. Out of memory is said only where none holds.
-use Rattle.std.specs.Prelude.{◌≡◌, Bool, false, not, ◌&&◌, List, ◌∷◌, Option, Some, None, Result, Ok, Err}
+use Rattle.std.specs.Prelude.{◌≡◌, ℕ, Bool, true, false, not, ◌&&◌, List, [], ◌∷◌, Option, Some, None, Result, Ok, Err}
 use Rattle.pnml_grammar.specs.declared.element.Context.TheVariants as contexts
 use Rattle.pnml_grammar.specs.declared.element.ElementKind.{ElementKind}
 use Rattle.pnml_grammar.specs.declared.reason.Reason.{Reason}
 use Rattle.pnml_grammar.specs.declared.reason.Reason.TheVariants.{BadNumber, Misplaced, TooDeep, TooMany}
 use Rattle.pnml_grammar.specs.declared.reason.Counted.TheVariants.{Nets}
 use Rattle.pnml_grammar.specs.declared.token.Token.{Token}
+use Rattle.pnml_grammar.specs.declared.token.Token.TheVariants as tokens
 use Rattle.pnml_grammar.specs.Contents.{Content as Given}
 use Rattle.pnml_grammar.specs.Elements.{may_hold}
 use Rattle.pnml_grammar.specs.OpenElements.{State}
 use Rattle.pnml_grammar.specs.Reasons.{Row, first_row, count_rows, is_number_text, is_second, is_pnml, is_full, has_all_nets}
 use Rattle.pnml_grammar.specs.Machine.{reason_of, next}
+use Rattle.pnml_token.specs.Streams.{Settles}
 use Rattle.pnml_decode.specs.declared.open.Open.{Open}
 use Rattle.pnml_decode.specs.declared.reader.Reader.{Reader}
 use Rattle.pnml_decode.specs.declared.reader_fault.ReaderFault.{ReaderFault}
@@ -49,6 +51,17 @@ place_rows state empty element =
     ∷ (has_all_nets state.top.content element, TooMany Nets)
     ∷ count_rows state.counts element
 
--- the innermost open element is skipped, and one more may be open: an empty tag is taken and changes nothing
+-- the innermost open element is skipped, and one more may be open: an empty tag is taken and changes nothing, as
+-- characters do
 abbrev pub Skips : State → Type 0
 Skips state = (state.top.context ≡ contexts.Skipped) × (is_full state ≡ false)
+
+-- a token that then changes nothing
+abbrev pub is_idle : Token → Bool
+is_idle (tokens.Empty name attributes) = true
+is_idle (tokens.Characters value) = true
+is_idle _ = false
+
+-- whatever follows the piece, such a token occurs at its front, spelled by so many bytes; nothing is held
+abbrev pub PassesIdle : List ℕ → List ℕ → ℕ → Type 0
+PassesIdle held piece taken = (held ≡ []) × (token : Token) × (is_idle token ≡ true) × Settles held piece taken token

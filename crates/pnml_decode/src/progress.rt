@@ -1,9 +1,11 @@
-ghost use Rattle.std.specs.Prelude.{◌≡◌, ◌+◌, ◌<◌, ◌≤◌, ◌^◌, ℕ, List, [], ◌++◌, true, length, length as list_length, take, drop, IfOk, OnOk, IfErr, IsUtf8};
+ghost use Rattle.std.specs.Prelude.{◌≡◌, ◌+◌, ◌<◌, ◌≤◌, ◌^◌, ℕ, List, [], ◌++◌, true, length, length as list_length, take, drop, IfOk, OnOk, IfErr, IfNone, IfSome, IsUtf8};
 ghost use Rattle.pnml_grammar.specs.Tokens.{TokenAt, first_offset};
 ghost use Rattle.pnml_grammar.specs.Documents.{DocBytes};
 ghost use Rattle.pnml_grammar.specs.ReadTo.{IsReadTo};
 ghost use Rattle.pnml_grammar.specs.Reasons.{reason_without_token as the_reason};
+ghost use Rattle.pnml_token.specs.Streams.{Live, fed_bytes, held_bytes, next_offset};
 ghost use Rattle.pnml_decode.specs.Views.{view};
+ghost use Rattle.pnml_decode.specs.Taking.{PassesIdle};
 ghost use Rattle.pnml_decode.specs.Faults.{NamesFirstFault};
 ghost use Rattle.pnml_decode.specs.Standing.{Follows, HasRead, front_length, is_declared, is_past_mark, is_reading, next_place, reached};
 
@@ -91,7 +93,7 @@ impl Progress {
         let mut at = self.pass_mark(text);
         'tokens: while at < text.len() {
             at += self.read_token(&text[at..])?;
-            at += self.pass_tags(&text[at..]);
+            at += self.pass_idle(&text[at..]);
         }
         Ok(())
     }
@@ -154,9 +156,9 @@ impl Progress {
         }
     }
 
-    /// Passes the empty tags ahead that occur in a skipped part, as far as they are told without memory, and answers how
-    /// many bytes they have. The reader isn't asked, since they change nothing.
-    fn pass_tags(&mut self, ahead: &[u8]) -> usize
+    /// Passes the empty tags and the characters ahead that occur in a skipped part, as far as they are told without
+    /// memory, and answers how many bytes they have. The reader isn't asked, since they change nothing.
+    fn pass_idle(&mut self, ahead: &[u8]) -> usize
         requires room { reached self.old + length ahead.now < 2 ^ 63 }
         ensures follows { (bytes : List ℕ) → Follows self.old bytes ahead.now → Follows self.new bytes (drop result ahead.now) }
         ensures stage { self.new.stage ≡ self.old.stage }
@@ -171,7 +173,7 @@ impl Progress {
         if !self.reader.skips() {
             return 0;
         }
-        'tags: while let Some(taken) = self.tokens.pass_empty_tag(&ahead[at..]) {
+        'tokens: while let Some(taken) = pass_one(&mut self.tokens, &ahead[at..]) {
             at += taken;
         }
         at
@@ -276,6 +278,21 @@ impl Progress {
                 Ok(())
             }
         }
+    }
+}
+
+/// Takes the empty tag or the characters at the front of the piece, where one is told to be there without memory.
+fn pass_one(tokens: &mut Tokens, piece: &[u8]) -> Option<usize>
+    requires { fed_bytes tokens.old + length piece.now < 2 ^ 63 }
+    ensures token { IfSome result (λ taken. PassesIdle (held_bytes tokens.old) piece.now taken) }
+    ensures after { IfSome result (λ taken. tokens.new ≡ Live (fed_bytes tokens.old + taken) []) }
+    ensures ahead { IfSome result (λ taken. next_offset tokens.old < fed_bytes tokens.old + taken) }
+    ensures taken { IfSome result (λ taken. taken ≤ length piece.now) }
+    ensures none { IfNone result (tokens.new ≡ tokens.old) }
+{
+    match tokens.pass_empty_tag(piece) {
+        Some(taken) => Some(taken),
+        None => tokens.pass_characters(piece),
     }
 }
 
