@@ -5,6 +5,7 @@ pub mod Texts
 pub mod RawAttributes
 pub mod AttributeLists
 pub mod NamesSeen
+pub mod RankLaws
 pub mod Cuts
 pub mod PieceLaws
 pub mod LegalTexts

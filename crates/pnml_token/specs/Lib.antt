@@ -9,3 +9,4 @@ pub mod Views
 pub mod Pieces
 pub mod EmptyTags
 pub mod Scans
+pub mod Ranks

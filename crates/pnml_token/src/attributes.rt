@@ -5,6 +5,7 @@ ghost use Rattle.pnml_token.specs.Gives.{Gives};
 ghost use Rattle.pnml_token.specs.Views.{view, views};
 
 use crate::miss::Miss;
+use crate::ranks::do_ascend;
 use crate::runs::{ByteClass, name_after_space, past, past_space, quote_of, split_run};
 use crate::values::{text_of, value_of};
 use net_values::NoMemory;
@@ -74,6 +75,8 @@ fn are_distinct(alloc: Global, raw_attributes: &[RawAttribute<'_>]) -> Result<bo
 {
     if raw_attributes.len() <= FEW_NAMES {
         Ok(are_few_distinct(raw_attributes))
+    } else if do_ascend(raw_attributes) {
+        Ok(true)
     } else {
         are_all_distinct(alloc, raw_attributes)
     }

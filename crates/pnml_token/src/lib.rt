@@ -14,6 +14,7 @@ mod legality;
 mod markup;
 mod miss;
 mod name_bytes;
+mod ranks;
 mod references;
 mod runs;
 mod scan;
