@@ -77,7 +77,7 @@ unfolding attributes_of
 read_all [] each = ([], refl)
 read_all (s ∷ raw_attributes) each = let more = read_all raw_attributes each.1 in (each.0.0 ∷ more.0, rw (each.0.1, more.1) refl)
 
-distinct_are_read : (raw_attributes : List RawAttribute) → AllByRecursion HasReading raw_attributes → are_new [] (map raw_attribute_name raw_attributes) ≡ true
+pub distinct_are_read : (raw_attributes : List RawAttribute) → AllByRecursion HasReading raw_attributes → are_new [] (map raw_attribute_name raw_attributes) ≡ true
     → (attributes : List Attribute) × (distinct_attributes_of raw_attributes ≡ Some attributes)
 unfolding distinct_attributes_of
 distinct_are_read raw_attributes each new = let read = read_all raw_attributes each in (read.0, rw new read.1)

@@ -12,6 +12,7 @@ pub mod LegalTexts
 pub mod Windows
 pub mod Endings
 pub mod EmptyTags
+pub mod AscendingTags
 pub mod PassedCharacters
 pub mod ScanLaws
 pub mod ScanRuns

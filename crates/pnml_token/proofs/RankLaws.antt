@@ -12,7 +12,7 @@ use Rattle.pnml_token.specs.Ranks.{rank}
 use Rattle.pnml_token.specs.Views.{views}
 use Rattle.pnml_token.proofs.AttributeLists.{views_more, views_all}
 
-abbrev IsUpTo : ℕ → List ℕ → Type 0
+abbrev pub IsUpTo : ℕ → List ℕ → Type 0
 IsUpTo most name = rank name ≤ most
 
 -- the numbers of the names so far are at most the last, and those that are left decide what all decide
@@ -27,7 +27,7 @@ other name before lt = elim (cases_Bool (bytes_eq name before)) [
   | inr apart ↦ apart
 ]
 
-none_before : (names : List (List ℕ)) (name : List ℕ) (last : ℕ) → last < rank name → AllByRecursion (IsUpTo last) names → list_any (bytes_eq name) names ≡ false
+pub none_before : (names : List (List ℕ)) (name : List ℕ) (last : ℕ) → last < rank name → AllByRecursion (IsUpTo last) names → list_any (bytes_eq name) names ≡ false
 none_before [] name last lt low = refl
 none_before (before ∷ names) name last lt low = rw (other name before (omega (arith, lt, low.0)), none_before names name last lt low.1) refl
 

@@ -1,5 +1,5 @@
-//! Empty tags that are told to be there without memory: those of ASCII with few attributes, in whose values nothing
-//! is to be resolved. Most tags of graphics are so.
+//! Empty tags that are told to be there without memory: those of ASCII in whose values nothing is to be
+//! resolved, with few attributes or such whose names are numbered in order. Most tags of graphics are so.
 
 ghost use Rattle.std.specs.Prelude.{◌≤◌, IfSome, IsTrue, length};
 ghost use Rattle.pnml_token.specs.EmptyTags.{HasReading, HasSimpleAttributes, IsEmptyTag, ReadsEmptyTag, StartsWithEmptyTag};
@@ -8,6 +8,7 @@ ghost use Rattle.pnml_token.specs.Views.{view};
 
 use crate::attributes::{FEW_NAMES, RawAttribute, are_few_distinct, raw_attribute_of};
 use crate::legality::{are_plain, is_spelling};
+use crate::ranks::rank;
 use crate::runs::{ByteClass, has_all, name_of, past, past_space};
 use crate::token::window_length;
 
@@ -56,7 +57,7 @@ fn empty_tag_of(bytes: &[u8]) -> Option<&[u8]>
     past(b'>', rest)
 }
 
-/// What follows the attributes, where there are few and all are simple.
+/// What follows the attributes, where all are simple and told to be distinct without memory.
 fn past_simple_attributes(bytes: &[u8]) -> Option<&[u8]>
     ensures { IfSome result (λ rest. HasSimpleAttributes bytes.now rest.now) }
 {
@@ -67,7 +68,10 @@ fn past_simple_attributes(bytes: &[u8]) -> Option<&[u8]>
     let mut count = 0;
     let mut rest = bytes;
     'more: while let Some((raw_attribute, beyond)) = raw_attribute_of(rest) {
-        if count == FEW_NAMES || !is_simple(&raw_attribute) {
+        if count == FEW_NAMES {
+            return past_ascending_attributes(bytes);
+        }
+        if !is_simple(&raw_attribute) {
             return None;
         }
         raw_attributes[count] = raw_attribute;
@@ -79,6 +83,23 @@ fn past_simple_attributes(bytes: &[u8]) -> Option<&[u8]>
     } else {
         None
     }
+}
+
+/// The same where the numbers of the names ascend.
+fn past_ascending_attributes(bytes: &[u8]) -> Option<&[u8]>
+    ensures { IfSome result (λ rest. HasSimpleAttributes bytes.now rest.now) }
+{
+    let mut last = 0;
+    let mut rest = bytes;
+    'more: while let Some((raw_attribute, beyond)) = raw_attribute_of(rest) {
+        let next = rank(raw_attribute.name);
+        if next <= last || !is_simple(&raw_attribute) {
+            return None;
+        }
+        last = next;
+        rest = beyond;
+    }
+    Some(rest)
 }
 
 /// Whether an attribute is ASCII and its value represents itself.
