@@ -1,11 +1,11 @@
 -- The sums of the rows of a step: the signs that are read off them are those of the rows.
-use Rattle.std.proofs.Common.{◌≡◌, refl, sym, ap, ◌∙◌, subst, ℕ, suc, ◌+◌, ◌*◌, ◌<◌, ◌==◌, nat_lt, Bool, cond, List, [], ◌∷◌, ◌++◌, length, get_or, slice_index, count_by, inl, inr, arith}
-use Rattle.std.proofs.lemmas.Bool.{cases_lt}
-use Rattle.std.proofs.lemmas.List.{get_or_default, get_or_append_left, get_or_push, length_push}
+use Rattle.std.proofs.Common.{◌≡◌, refl, sym, ap, ◌∙◌, subst, ℕ, suc, ◌+◌, ◌*◌, ◌<◌, ◌==◌, nat_lt, Bool, cond, List, [], ◌∷◌, length, replicate, get_or, set, slice_index, count_by, inl, inr, arith}
+use Rattle.std.proofs.lemmas.Bool.{cases_eq}
+use Rattle.std.proofs.lemmas.List.{get_or_default, get_or-set_same, get_or-set_other, length-set, length-replicate, get_or-replicate}
 use Rattle.std.proofs.lemmas.List.Sums.{sum_by-cons}
 use Rattle.incidence.specs.Matrix.{Matrix, gain_sum, loss_sum}
 use Rattle.semiflow_elim.specs.Bases.{IsBasis, in_set}
-use Rattle.semiflow_elim.specs.Candidates.{IsStep, AreSums, AreRead, IsRead, sums_of, signs_total}
+use Rattle.semiflow_elim.specs.Candidates.{IsStep, AreSums, AreRead, AreReadUpTo, IsRead, sums_of, signs_total}
 use Rattle.semiflow_elim.specs.Elimination.{AreNarrowAt, candidate_count, is_zero, is_positive, is_negative, row_of}
 use Rattle.semiflow_elim.specs.Carried.{CarryTheirs, list_of, sums_in}
 use Rattle.semiflow_elim.specs.declared.carried.ColumnSums.{ColumnSums}
@@ -55,24 +55,51 @@ module _ (m : Matrix) (c : ℕ) (rows : List (List ℕ)) (sums : List RowSums) (
     largest = h.largest;
   }
 
--- the sums of one more row
-pub read_none : (c : ℕ) (rows : List (List ℕ)) (carried : List (List ColumnSums)) → AreRead c rows carried [] 0
-read_none c rows carried = record { size = refl; each = λ k under. absurd (omega arith) }
-
-pub read_more : (c : ℕ) (rows : List (List ℕ)) (carried : List (List ColumnSums)) (sums : List RowSums) (n : ℕ) (own : RowSums) → AreRead c rows carried sums n → IsRead (row_of rows n) (sums_in (list_of carried n) c) own → AreRead c rows carried (sums ++ own ∷ []) (n + 1)
-read_more c rows carried sums n own h has =
-    let size = h.size in
-    let pushed : length (sums ++ own ∷ []) ≡ length sums + 1 = length_push sums own in
+-- no sums were read yet
+pub read_none : (c : ℕ) (rows : List (List ℕ)) (carried : List (List ColumnSums)) (sums : List RowSums) → sums ≡ replicate (length rows) record { gain = 0; loss = 0; largest = 0 } → AreReadUpTo c rows carried sums 0
+read_none c rows carried sums is =
+    let none : RowSums = record { gain = 0; loss = 0; largest = 0 } in
     record {
-      size = omega arith;
-      each = λ k under. elim (cases_lt k n) [
-        | inl below ↦ subst (IsRead (row_of rows k) (sums_in (list_of carried k) c)) (sym (get_or_append_left sums (own ∷ []) record { gain = 0; loss = 0; largest = 0 } k (omega arith))) (h.each k below)
-        | inr above ↦
-            let same : n ≡ k = omega arith in
-            subst (λ (j : ℕ). IsRead (row_of rows j) (sums_in (list_of carried j) c) (sums_of (sums ++ own ∷ []) j)) same
-            (subst (IsRead (row_of rows n) (sums_in (list_of carried n) c)) (sym (get_or_push sums own record { gain = 0; loss = 0; largest = 0 } n size)) has)
-      ];
+      size = ap length is ∙ length-replicate {A = RowSums} (length rows) none;
+      each = λ k under. absurd (omega arith);
+      rest = λ k past under. ap (λ (l : List RowSums). sums_of l k) is ∙ get_or-replicate (length rows) k none none under;
     }
+
+module _ (c : ℕ) (rows : List (List ℕ)) (carried : List (List ColumnSums)) (sums : List RowSums) (i : ℕ) (under_rows : i < length rows) (h : AreReadUpTo c rows carried sums i) where
+  -- row i has sums at the column
+  pub read_set : (own : RowSums) → IsRead (row_of rows i) (sums_in (list_of carried i) c) own → AreReadUpTo c rows carried (set sums i own) (i + 1)
+  read_set own has =
+      let size = h.size in
+      let none : RowSums = record { gain = 0; loss = 0; largest = 0 } in
+      record {
+        size = length-set sums i own ∙ size;
+        each = λ k under. elim (cases_eq k i) [
+          | inl same ↦
+              subst (λ (j : ℕ). IsRead (row_of rows j) (sums_in (list_of carried j) c) (sums_of (set sums i own) j)) (sym same)
+              (subst (IsRead (row_of rows i) (sums_in (list_of carried i) c)) (sym (get_or-set_same sums i own none (omega arith))) has)
+          | inr other ↦ subst (IsRead (row_of rows k) (sums_in (list_of carried k) c)) (sym (get_or-set_other sums i k own none other)) (h.each k (omega arith))
+        ];
+        rest = λ k past under. get_or-set_other sums i k own none (λ same. omega (arith, past, same)) ∙ h.rest k (omega arith) under;
+      }
+
+  -- it has none
+  pub read_skip : sums_in (list_of carried i) c ≡ record { column = c; gain = 0; loss = 0 } → AreReadUpTo c rows carried sums (i + 1)
+  read_skip none =
+      let zero = h.rest i (omega arith) under_rows in
+      let gain : (sums_of sums i).gain ≡ 0 = ap (λ (own : RowSums). own.gain) zero in
+      let loss : (sums_of sums i).loss ≡ 0 = ap (λ (own : RowSums). own.loss) zero in
+      record {
+        size = h.size;
+        each = λ k under. elim (cases_eq k i) [
+          | inl same ↦ subst (λ (j : ℕ). IsRead (row_of rows j) (sums_in (list_of carried j) c) (sums_of sums j)) (sym same) record {
+            gain = gain ∙ sym (ap (λ (own : ColumnSums). own.gain) none);
+            loss = loss ∙ sym (ap (λ (own : ColumnSums). own.loss) none);
+            largest = λ differ. absurd (differ (gain ∙ sym loss));
+          }
+          | inr other ↦ h.each k (omega arith)
+        ];
+        rest = λ k past under. h.rest k (omega arith) under;
+      }
 
 -- where no sum at the column is wide, they are the sums of the rows
 pub read_sums : (m : Matrix) (K : ℕ → Type 0) (c : ℕ) (rows : List (List ℕ)) (carried : List (List ColumnSums)) (sums : List RowSums) → CarryTheirs m K rows carried → c < m.columns → (K c → ⊥) → AreNarrowAt m c rows → AreRead c rows carried sums (length rows) → AreSums m c rows sums (length rows)

@@ -36,7 +36,7 @@ pub record IsWideCombination (r s : List ℕ) (a b : ℕ) : Type 0 where
 abbrev pub sums_of : List RowSums → ℕ → RowSums
 sums_of sums k = slice_index_or sums k record { gain = 0; loss = 0; largest = 0 }
 
--- the largest entry of a row is known where its sums differ
+-- a number that no entry of a row exceeds is known where its sums differ
 abbrev pub HasLargest : List ℕ → RowSums → Type 0
 HasLargest row own = (own.gain ≡ own.loss → ⊥) → (i : ℕ) → slice_index row i ≤ own.largest
 
@@ -50,6 +50,12 @@ pub record IsRead (row : List ℕ) (carried : ColumnSums) (own : RowSums) : Type
 pub record AreRead (c : ℕ) (rows : List (List ℕ)) (carried : List (List ColumnSums)) (sums : List RowSums) (n : ℕ) : Type 0 where
   pub size : length sums ≡ n
   pub each : (k : ℕ) → k < n → IsRead (row_of rows k) (sums_in (list_of carried k) c) (sums_of sums k)
+
+-- those of the first i rows, and sums of 0 from there on
+pub record AreReadUpTo (c : ℕ) (rows : List (List ℕ)) (carried : List (List ColumnSums)) (sums : List RowSums) (i : ℕ) : Type 0 where
+  pub size : length sums ≡ length rows
+  pub each : (k : ℕ) → k < i → IsRead (row_of rows k) (sums_in (list_of carried k) c) (sums_of sums k)
+  pub rest : (k : ℕ) → i ≤ k → k < length rows → sums_of sums k ≡ record { gain = 0; loss = 0; largest = 0 }
 
 -- the rows of a step from some set of columns with their sums at the column of the step
 pub record IsStep (m : Matrix) (c : ℕ) (rows : List (List ℕ)) (sums : List RowSums) : Type 0 where

@@ -1,4 +1,4 @@
-ghost use Rattle.std.specs.Prelude.{◌≡◌, ℕ, ◌<◌, ◌≤◌, IfOk, false, length, replicate, slice_index, slice_set};
+ghost use Rattle.std.specs.Prelude.{◌≡◌, ℕ, ◌<◌, ◌≤◌, IfOk, MatchOption, false, length, replicate, slice_index, slice_set};
 ghost use Rattle.net_values.specs.PlaceSets.{has};
 ghost use Rattle.incidence.specs.Matrix.{gain_sum, loss_sum, transposed};
 ghost use Rattle.incidence.specs.Tables.{matrix_of};
@@ -95,18 +95,16 @@ pub(crate) fn sums_at(matrix: &Incidence, column: usize, row: &Vector) -> Column
     }
 }
 
-/// The sums of a column in a list of them.
-pub(crate) fn find_sums(sums: &[ColumnSums], column: usize) -> ColumnSums
-    ensures { result ≡ sums_in sums.now column }
+/// The sums of a column in a list of them. Where there are none, both are 0.
+pub(crate) fn find_sums(sums: &[ColumnSums], column: usize) -> Option<ColumnSums>
+    ensures { MatchOption result
+        (sums_in sums.now column ≡ record { column = column; gain = 0; loss = 0 })
+        (λ own. own ≡ sums_in sums.now column) }
 {
     for own in sums {
         if own.column == column {
-            return *own;
+            return Some(*own);
         }
     }
-    ColumnSums {
-        column,
-        gain: 0,
-        loss: 0,
-    }
+    None
 }

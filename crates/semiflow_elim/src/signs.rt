@@ -1,14 +1,13 @@
 ghost use Rattle.std.specs.Prelude.{◌≡◌, ℕ, ◌<◌, ◌≤◌, IfOk, length, slice_index};
 ghost use Rattle.semiflow_elim.specs.Candidates.{AreRead, IsRead};
-ghost use Rattle.semiflow_elim.specs.Carried.{sums_in};
 
-use crate::carried::{ColumnSums, find_sums};
+use crate::carried::{ColumnSums, WIDE, find_sums};
 use crate::carried_rows::CarriedRows;
 use crate::row_arithmetic::largest;
 use net_values::{NoMemory, Vector};
 use std::alloc::Global;
 
-/// The two sums of a row at a column, and its largest entry where they differ.
+/// The two sums of a row at a column, and a number that no entry exceeds where they differ.
 #[derive(Clone, Copy)]
 pub(crate) struct RowSums {
     pub gain: u128,
@@ -16,36 +15,53 @@ pub(crate) struct RowSums {
     pub largest: u128,
 }
 
-/// The two sums of each row at a column, from what the rows carry.
+/// The two sums of each row at a column, from what the rows carry. Of the rows that are in few pairs the largest
+/// entry isn't looked for.
 pub(crate) fn row_sums(
     alloc: Global,
     column: usize,
     rows: &CarriedRows,
+    many: bool,
 ) -> Result<Vec<RowSums>, NoMemory>
     requires { length rows.now.sums.items ≡ length rows.now.vectors.items }
     ensures { IfOk result (λ sums.
         AreRead column rows.now.vectors.items rows.now.sums.items sums.items (length rows.now.vectors.items)) }
 {
-    let mut sums = Vec::with_capacity(alloc, rows.vectors.len())?;
+    let none = RowSums {
+        gain: 0,
+        loss: 0,
+        largest: 0,
+    };
+    let mut sums = vec![in alloc; none; rows.vectors.len()]?;
     for i in 0..rows.vectors.len() {
-        sums.push(sums_at(&rows.vectors[i], rows.sums[i].as_slice(), column))?;
+        if let Some(own) = find_sums(rows.sums[i].as_slice(), column) {
+            sums[i] = signed(own, &rows.vectors[i], many);
+        }
     }
     Ok(sums)
 }
 
-/// The two sums of one row.
-fn sums_at(row: &Vector, carried: &[ColumnSums], column: usize) -> RowSums
-    ensures { IsRead row.now (sums_in carried.now column) result }
+/// The sums of a row with a number that no entry exceeds where they differ.
+fn signed(own: ColumnSums, row: &Vector, many: bool) -> RowSums
+    ensures { IsRead row.now own result }
 {
-    let own = find_sums(carried, column);
     let largest = if own.gain == own.loss {
         0
     } else {
-        largest(row)
+        ceiling(row, many)
     };
     RowSums {
         gain: own.gain,
         loss: own.loss,
         largest,
     }
+}
+
+/// A number that no entry of a row exceeds: the largest entry where the row may be in many pairs, which is then worth
+/// a look at all of them.
+fn ceiling(row: &Vector, many: bool) -> u128
+    ensures { (i : ℕ) → slice_index row.now i ≤ result }
+{
+    let _walk = row.walk();
+    if many { largest(row) } else { WIDE }
 }

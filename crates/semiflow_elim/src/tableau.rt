@@ -211,7 +211,8 @@ fn added_rows(
     if choice.count > u64::from(budget) {
         return Err(ElimFault::RowBudget(column, choice.count));
     }
-    let Ok(sums) = row_sums(alloc, column, rows) else {
+    let many = counts[column].positive > 1 || counts[column].negative > 1;
+    let Ok(sums) = row_sums(alloc, column, rows, many) else {
         return Err(ElimFault::NoMemory);
     };
     let Ok(mut after) = taken.copy(alloc) else {

@@ -12,4 +12,4 @@ returns-then-own-column c =
     same ∙ sym (sums_met sums c.args.column k c.loop-own.invariant c.loop-own-test.true (ap (λ (o : ColumnSums). o.column) (sym same) ∙ c.if-own-column.true))
 
 pub returns : goal.returns
-returns c = sym (sums_free c.args.sums.now c.args.column (λ k under. c.loop-own.invariant k (let done = c.loop-own-test.false in omega arith)))
+returns c = sums_free c.args.sums.now c.args.column (λ k under. c.loop-own.invariant k (let done = c.loop-own-test.false in omega arith))
