@@ -7,6 +7,9 @@ use incidence::{WideSum, add_product};
 use net_values::{NoMemory, PlaceSet, Vector};
 use std::alloc::Global;
 
+/// The product of two numbers below this, and the sum of two such products, is below 2^127.
+const SMALL: u128 = 1 << 63;
+
 /// Why a combination of two rows can't be formed.
 #[derive(Clone, Copy, Debug, PartialEq, Eq)]
 pub(crate) enum RowFault {
@@ -59,11 +62,21 @@ pub(crate) fn largest(row: &Vector) -> u128
 pub(crate) fn scaled_entry(x: u128, r: u128, y: u128, s: u128) -> Result<u128, WideSum>
     ensures { OkIff result (x * r + y * s < 2 ^ 127) (x * r + y * s) }
 {
-    if r == 0 && s == 0 {
-        return Ok(0);
+    if x < SMALL && r < SMALL && y < SMALL && s < SMALL {
+        return Ok(small_product(x, r) + small_product(y, s));
     }
     let first = add_product(0, x, r)?;
     add_product(first, y, s)
+}
+
+/// The product of two small numbers.
+fn small_product(x: u128, r: u128) -> u128
+    requires first { x < 2 ^ 63 }
+    requires second { r < 2 ^ 63 }
+    ensures value { result ≡ x * r }
+    ensures bound { result < 2 ^ 126 }
+{
+    x * r
 }
 
 /// The sum of positive multiples of two rows.

@@ -6,7 +6,7 @@ use Rattle.semiflow_elim.specs.Elimination.{row_of}
 use Rattle.semiflow_elim.specs.declared.carried.ColumnSums.{ColumnSums}
 use Rattle.semiflow_elim.specs.declared.signs.RowSums.{RowSums}
 use Rattle.semiflow_elim.proofs.Pairs.{read_row}
-use Rattle.semiflow_elim.proofs.Steps.{read_none, read_set, read_skip}
+use Rattle.semiflow_elim.proofs.Steps.{read_set, read_skip}
 use Rattle.semiflow_elim.proofs.signs.row_sums.Goals.{in-Some, in_default}
 use Rattle.semiflow_elim.proofs.signs.row_sums.Goals as goal
 
