@@ -4,7 +4,7 @@ use Rattle.std.proofs.lemmas.Bool.{cases_lt, false≢true}
 use Rattle.net_values.specs.PlaceSets.{has}
 use Rattle.incidence.specs.Matrix.{Matrix}
 use Rattle.semiflow_elim.specs.Bases.{in_set}
-use Rattle.semiflow_elim.specs.Choices.{IsBest}
+use Rattle.semiflow_elim.specs.Choices.{IsBeaten, IsBest}
 use Rattle.semiflow_elim.specs.Elimination.{IsChosen, candidate_count}
 use Rattle.semiflow_elim.specs.declared.choice.Choice.{Choice}
 use Rattle.semiflow_elim.proofs.TakenSets.{outside, outside_is}
@@ -57,6 +57,10 @@ module _ (taken : List Bool) (count_at : ℕ → ℕ) (n : ℕ) where
         fewest = up_to (λ j. has taken j ≡ false → count ≤ count_at j) n (λ j under free. let few = h.fewest j under free in omega arith) (λ free. omega arith);
         lowest = λ j under free. let few = h.fewest j under free in omega arith;
       }
+
+-- a number that beats the best choice is below that of each choice that it may be
+pub beaten_by : (best : Option Choice) (count : ℕ) → IsBeaten best count → (choice : Choice) → best ≡ Some choice → count < choice.count
+beaten_by best count beaten choice same = subst (λ (b : Option Choice). IsBeaten b count) same beaten
 
 -- in the end it is the column of the step
 pub best_chosen : (m : Matrix) (taken : List Bool) (rows : List (List ℕ)) (count_at : ℕ → ℕ) (n : ℕ) (choice : Choice) → n ≡ m.columns → ((j : ℕ) → j < m.columns → has taken j ≡ false → count_at j ≡ candidate_count m j rows) → IsBest taken count_at n (Some choice) → IsChosen m (in_set taken) rows choice.column

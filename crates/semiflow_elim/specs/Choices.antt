@@ -1,5 +1,5 @@
 -- The column of a step, looked for in order.
-use Rattle.std.specs.Prelude.{◌≡◌, ℕ, ◌<◌, ◌≤◌, Bool, false, List, Option, None, Some, length}
+use Rattle.std.specs.Prelude.{◌≡◌, ℕ, ◌<◌, ◌≤◌, Bool, false, ⊤, List, Option, None, Some, length}
 use Rattle.net_values.specs.PlaceSets.{has}
 use Rattle.semiflow_elim.specs.Counts.{counts_of}
 use Rattle.semiflow_elim.specs.declared.choice.Choice.{Choice}
@@ -18,6 +18,11 @@ pub record IsFewest (taken : List Bool) (count_at : ℕ → ℕ) (n : ℕ) (choi
 abbrev pub IsBest : List Bool → (ℕ → ℕ) → ℕ → Option Choice → Type 0
 IsBest taken count_at n None = (j : ℕ) → j < n → has taken j ≡ false → ⊥
 IsBest taken count_at n (Some choice) = IsFewest taken count_at n choice
+
+-- it has more candidates than this, or there is none
+abbrev pub IsBeaten : Option Choice → ℕ → Type 0
+IsBeaten None count = ⊤
+IsBeaten (Some choice) count = count < choice.count
 
 -- of the first n columns outside the set none has a wide sum
 abbrev pub NoneWide : List Bool → List ColumnCounts → ℕ → Type 0

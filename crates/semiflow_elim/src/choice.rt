@@ -1,10 +1,10 @@
 ghost use Rattle.std.specs.Prelude.{◌≡◌, ℕ, ◌+◌, ◌-◌, ◌*◌, ◌<◌, ◌≤◌, ◌^◌, ◌⊎◌, Bool, List, Some, false};
-ghost use Rattle.std.specs.Prelude.{IfOk, OnOk, IfErr, length};
+ghost use Rattle.std.specs.Prelude.{IfOk, OnOk, IfErr, IsTrue, length};
 ghost use Rattle.net_values.specs.PlaceSets.{has};
 ghost use Rattle.incidence.specs.Tables.{matrix_of};
 ghost use Rattle.semiflow_elim.specs.Bases.{in_set};
 ghost use Rattle.semiflow_elim.specs.Carried.{CarryTheirs};
-ghost use Rattle.semiflow_elim.specs.Choices.{IsBest, NoneWide, IsFirstCounted};
+ghost use Rattle.semiflow_elim.specs.Choices.{IsBeaten, IsBest, NoneWide, IsFirstCounted};
 ghost use Rattle.semiflow_elim.specs.Counts.{AreCounted, candidates_at, counts_of};
 ghost use Rattle.semiflow_elim.specs.Elimination.{AreNarrowOutside, FailsBy, IsChosen, candidate_count};
 
@@ -48,7 +48,8 @@ pub(crate) fn chosen_column(
     }
 }
 
-/// The column outside a set with the fewest candidates, or the lowest one with a wide sum.
+/// The column outside a set with the fewest candidates, or the lowest one with a wide sum. Most columns have no
+/// fewer than the best so far, and of these it isn't asked whether they are in the set.
 fn best_of(counts: &[ColumnCounts], taken: &PlaceSet, total: usize) -> Result<Choice, usize>
     requires columns { length taken.now ≡ length counts.now }
     requires left { (j : ℕ) × (j < length taken.now) × (has taken.now j ≡ false) }
@@ -62,11 +63,14 @@ fn best_of(counts: &[ColumnCounts], taken: &PlaceSet, total: usize) -> Result<Ch
 {
     let mut best = None;
     for j in 0..counts.len() {
-        if !taken.contains(j) {
-            if counts[j].wide > 0 {
-                return Err(j);
+        let count = candidates(counts[j], total as u64);
+        if counts[j].wide > 0 || is_fewer(count, best) {
+            if !taken.contains(j) {
+                if counts[j].wide > 0 {
+                    return Err(j);
+                }
+                best = Some(Choice { column: j, count });
             }
-            best = Some(better(best, j, candidates(counts[j], total as u64)));
         }
     }
     match best {
@@ -84,14 +88,14 @@ fn candidates(own: ColumnCounts, total: u64) -> u64
     total - (own.positive + own.negative) + own.positive * own.negative
 }
 
-/// The better of the best choice so far and a higher column.
-fn better(best: Option<Choice>, column: usize, count: u64) -> Choice
-    ensures { (taken : List Bool) (count_at : ℕ → ℕ) → IsBest taken count_at column best →
-        has taken column ≡ false → count ≡ count_at column →
-        IsBest taken count_at (column + 1) (Some result) }
+/// Whether a number of candidates is less than that of the best choice so far, if any.
+fn is_fewer(count: u64, best: Option<Choice>) -> bool
+    ensures fewer { IsTrue result → IsBeaten best count }
+    ensures kept { (taken : List Bool) (count_at : ℕ → ℕ) (column : ℕ) → result ≡ false → count ≡ count_at column →
+        IsBest taken count_at column best → IsBest taken count_at (column + 1) best }
 {
     match best {
-        Some(choice) if choice.count <= count => choice,
-        _ => Choice { column, count },
+        Some(choice) => count < choice.count,
+        None => true,
     }
 }
