@@ -94,13 +94,8 @@ pub fn read_all<S: Source>(
 {
     let mut bytes = Vec::new(alloc);
     let mut buffer = read_buffer(alloc)?;
-    loop {
-        match append_piece(source, buffer.as_mut_slice(), &mut bytes, limit) {
-            Ok(true) => {}
-            Ok(false) => return Ok(bytes),
-            Err(fault) => return Err(fault),
-        }
-    }
+    'pieces: while append_piece(source, buffer.as_mut_slice(), &mut bytes, limit)? {}
+    Ok(bytes)
 }
 
 // Reads once, and appends what came. It gives whether anything came.

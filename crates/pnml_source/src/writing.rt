@@ -18,10 +18,7 @@ pub fn write_all<O: Sink>(sink: &mut O, bytes: &[u8]) -> Result<(), WriteFault>
 {
     let mut at = 0;
     while at < bytes.len() {
-        match write_piece(sink, bytes, at) {
-            Ok(end) => at = end,
-            Err(fault) => return Err(fault),
-        }
+        at = write_piece(sink, bytes, at)?;
     }
     Ok(())
 }

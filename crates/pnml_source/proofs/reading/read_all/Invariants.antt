@@ -9,10 +9,10 @@ pub record ReadFront (old new : Option (List ℕ)) (before now : ℕ) (bytes : L
   pub within : count ≤ limit
   pub room : 0 < size
 
-abbrev pub invariant-loop-bytes : goal.invariant-loop-bytes
-invariant-loop-bytes g l =
+abbrev pub invariant-pieces : goal.invariant-pieces
+invariant-pieces g l =
     ReadFront (g.S.Source.left l.initial.source) (g.S.Source.left l.source) (g.S.Source.faults l.initial.source)
     (g.S.Source.faults l.source) l.bytes.items (vec_len l.bytes) l.limit (vec_len l.buffer)
 
-abbrev pub decreases-loop-bytes : goal.decreases-loop-bytes
-decreases-loop-bytes g l = l.limit + 1 - vec_len l.bytes
+abbrev pub decreases-pieces : goal.decreases-pieces
+decreases-pieces g l = l.limit + 1 - vec_len l.bytes
