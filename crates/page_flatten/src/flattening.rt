@@ -40,10 +40,7 @@ pub fn flatten(alloc: Global, document: &Document, net: usize) -> Result<FlatNet
     ensures fault { IfErr result (IsAnswered document.now net) }
 {
     let nets = &document.nets;
-    let tables = match numbered_nets(alloc, nets) {
-        Ok(tables) => tables,
-        Err(fault) => return Err(fault),
-    };
+    let tables = numbered_nets(alloc, nets)?;
     check_names(alloc, nets, &tables, NameRule::Mentions)?;
     check_names(alloc, nets, &tables, NameRule::Kinds)?;
     let links = settle_all(alloc, nets, &tables)?;
