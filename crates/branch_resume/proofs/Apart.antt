@@ -2,7 +2,7 @@
 use Rattle.std.proofs.Common.{◌≡◌, sym, ap, ◌∙◌, subst, ℕ, zero, suc, ◌+◌, ◌-◌, ◌<◌, ◌≤◌, List, [], ◌∷◌, ◌++◌, Bool, length, drop, drop-cons, take, get_or, slice_get, Some, inr, All, AllPairs, arith}
 use Rattle.std.proofs.Math.Seq.{take-suc}
 use Rattle.std.proofs.lemmas.List.{take_all}
-use Rattle.std.proofs.lemmas.List.Elements.{All-push}
+use Rattle.std.proofs.lemmas.List.Elements.{All-cons, All-push}
 use Rattle.std.proofs.lemmas.List.Quantifiers.{all_pairs_push}
 use Rattle.std.specs.Prelude.{IsTrue}
 use Rattle.std.proofs.lemmas.List.Kept.{AllPairs-cons}
@@ -21,17 +21,13 @@ pub record ArePartedFrom (classes : List Branch) (k : ℕ) (common : List Bool) 
   pub disjoint : AllPairs AreDisjoint (drop k classes)
   pub contained : (p : ℕ) → IsTrue (has common p) → AllContain p (drop k classes)
 
-all_one_more : (P : Branch → Type 0) (class : Branch) (classes : List Branch) → P class → All P classes → All P (class ∷ classes)
-all_one_more P class classes holds all zero d below = holds
-all_one_more P class classes holds all (suc k) d below = all k d (omega (arith, below))
-
 pub parted_more : (classes : List Branch) (class : Branch) (k : ℕ) (common kept : List Bool) → drop k classes ≡ class ∷ drop (k + 1) classes → k < length classes → ArePartedFrom classes (k + 1) common → HaveCommon common class.avoids → IsWithinBoth common class.contains kept
     → ArePartedFrom classes k kept
 parted_more classes class k common kept is within parted shared both = record {
   within = omega (arith, within);
   disjoint = subst (AllPairs AreDisjoint) (sym is) (AllPairs-cons AreDisjoint class (drop (k + 1) classes)
       (λ i d below. record { place = shared.place; apart = inr (shared.in_other, parted.contained shared.place shared.in_one i d below) }) parted.disjoint);
-  contained = λ p some. subst (AllContain p) (sym is) (all_one_more (λ other. IsTrue (has other.contains p)) class (drop (k + 1) classes) (both p some).1 (parted.contained p (both p some).0));
+  contained = λ p some. subst (AllContain p) (sym is) (All-cons (λ other. IsTrue (has other.contains p)) class (drop (k + 1) classes) (both p some).1 (parted.contained p (both p some).0));
 }
 
 -- from the last class to the first

@@ -10,6 +10,7 @@ use Rattle.certificates.specs.Words.{before, from_first, cut, words_in}
 use Rattle.certificates.proofs.Cuts.{IsFree, joined, cut_joins, cut_again, cut_first, cut_others}
 use Rattle.certificates.proofs.Lists.{each_all, each_map, each_mapped, each_append}
 use Rattle.certificates.proofs.LineReading.{decimal_text}
+use Rattle.certificates.proofs.LineSplits.{NoFeed}
 use Rattle.certificates.proofs.LineWords.{IsText, text_free, joined_free}
 use Rattle.siphon_branch.specs.declared.branch.Branch.{Branch}
 use Rattle.siphon_branch.specs.Classes.{HasSize, IsConsistent}
@@ -20,9 +21,6 @@ use Rattle.branch_resume.specs.Disjoint.{HaveCommon}
 use Rattle.branch_resume.specs.Lines.{NamesClass, NamesNone, StopsAfter, StopsFrom, place_after}
 use Rattle.branch_resume.proofs.Places.{places_ascend, each_place, same_places, same_set}
 use Rattle.branch_resume.proofs.Words.{IsBelow, same_front, minus_is_other}
-
-abbrev NoFeed : ℕ → Type 0
-NoFeed byte = byte ≢ 10
 
 abbrev name : List ℕ
 name = codes "class"

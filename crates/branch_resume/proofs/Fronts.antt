@@ -1,13 +1,14 @@
 -- Lines at the front of bytes are those of classes as long as they are read as such; then the bytes begin with no line of a
 -- class. What follows tells whether they are a token, and the classes whether it is accepted.
-use Rattle.std.proofs.Common.{◌≡◌, refl, sym, ap, ◌∙◌, subst, ℕ, zero, suc, ◌+◌, ◌<◌, ◌≤◌, List, [], ◌∷◌, ◌++◌, length, length-append, length-take-le, take, drop, Some, slice_get, inl, inr, All, AllPairs, get_or, get_or-take, append_assoc, append-nil, arith}
+use Rattle.std.proofs.Common.{◌≡◌, refl, sym, ap, ◌∙◌, subst, ℕ, zero, suc, ◌+◌, ◌<◌, ◌≤◌, List, [], ◌∷◌, ◌++◌, length, length-append, length-take-le, take, drop, Some, slice_get, inl, inr, All, AllPairs, get_or, append_assoc, append-nil, arith}
 use Rattle.std.proofs.lemmas.Grind.{flat_map-append}
-use Rattle.std.proofs.lemmas.List.Elements.{All-push}
+use Rattle.std.proofs.lemmas.List.Elements.{All-push, All-take}
 use Rattle.net_values.specs.declared.limits.TheConstants.{MAX_PLACES}
 use Rattle.certificates.specs.BadLines.{IsLine}
 use Rattle.certificates.specs.Words.{before, from_first}
 use Rattle.certificates.proofs.Lists.{all_each, each_all, each_append}
-use Rattle.certificates.proofs.ReadLines.{NoFeed, line_parts, line_free}
+use Rattle.certificates.proofs.LineSplits.{NoFeed, cut_line}
+use Rattle.certificates.proofs.ReadLines.{line_parts, line_free}
 use Rattle.siphon_branch.specs.declared.branch.Branch.{Branch}
 use Rattle.siphon_branch.specs.Classes.{AreDisjoint, HasSize, IsConsistent}
 use Rattle.branch_resume.specs.Tokens.{class_line, IsNameable, BeginsWithToken}
@@ -15,7 +16,7 @@ use Rattle.branch_resume.specs.Pending.{ReadsPending, IsMalformedAt, IsOfNet, Is
 use Rattle.branch_resume.specs.Disjoint.{IsFirstOverlap}
 use Rattle.branch_resume.specs.Lines.{BeginsNoClass, BeginsOtherwise, IsFront, NamesClass, NamesNone}
 use Rattle.branch_resume.proofs.ClassLines.{is_line, sized_inside, sized_named}
-use Rattle.branch_resume.proofs.TokenLines.{AreNameable, class_bytes, end_line, first_line, cut_line, malformed_after, same_line, token_bytes}
+use Rattle.branch_resume.proofs.TokenLines.{AreNameable, class_bytes, end_line, first_line, malformed_after, same_line, token_bytes}
 
 -- ---- how far the lines were read
 
@@ -99,11 +100,6 @@ module _ (places : ℕ) (fits : places ≤ MAX_PLACES) (lines left last : List �
     inside_each : (list : List Branch) → All (HasSize places) list → All (IsOfNet places) list
     inside_each list sized k d below = sized_inside places (get_or list k d) (sized k d below)
 
-    first_of : (P : Branch → Type 0) (list : List Branch) (k : ℕ) → k < length list → All P list → All P (take k list)
-    first_of P list k low all i d below =
-        let size = length-take-le k list (omega (arith, low)) in
-        subst P (sym (get_or-take k list i d (omega (arith, below, size)))) (all i d (omega (arith, below, size, low)))
-
     pub overlap_rejected : (k : ℕ) → IsFirstOverlap classes k → IsRejectedAt places (first_line ++ lines) (k + 2)
     overlap_rejected k first =
         let size = length-take-le k classes (let low = first.within in omega (arith, low)) in
@@ -114,7 +110,7 @@ module _ (places : ℕ) (fits : places ≤ MAX_PLACES) (lines left last : List �
           class = first.class;
           after = drop (suc k) classes ++ beyond;
           token = subst (BeginsWithToken (first_line ++ lines)) parts token;
-          good = inside_each (take k classes) (first_of (HasSize places) classes k first.within front.sizes);
+          good = inside_each (take k classes) (All-take (HasSize places) k classes front.sizes);
           disjoint = first.before;
           refused = inr first.overlaps;
           count = omega (arith, size);

@@ -1,21 +1,18 @@
 -- The lines of tokens, one after the other: each ends at the first line feed, and the line `end` is none of a class. So
 -- lines that were read are those with which any token of the same bytes begins.
-use Rattle.std.proofs.Common.{◌≡◌, ◌≢◌, refl, sym, ap, ◌∙◌, ℕ, suc, ◌+◌, List, [], ◌∷◌, ◌++◌, length, map, codes, append_assoc, append-nil, arith}
+use Rattle.std.proofs.Common.{◌≡◌, ◌≢◌, refl, sym, ap, ◌∙◌, ℕ, ◌+◌, List, [], ◌∷◌, ◌++◌, length, map, codes, append_assoc, append-nil, arith}
 use Rattle.std.specs.List.{flat_map, AllByRecursion}
+use Rattle.std.proofs.lemmas.List.{length-map}
 use Rattle.net_values.specs.declared.limits.TheConstants.{MAX_PLACES}
 use Rattle.certificates.specs.BadLines.{IsLine}
 use Rattle.certificates.specs.Words.{before, from_first}
-use Rattle.certificates.proofs.Cuts.{first_again}
 use Rattle.certificates.proofs.Lists.{all_each, each_all}
-use Rattle.certificates.proofs.ReadLines.{NoFeed}
+use Rattle.certificates.proofs.LineSplits.{bytes_of, cut_line}
 use Rattle.siphon_branch.specs.declared.branch.Branch.{Branch}
 use Rattle.branch_resume.specs.Tokens.{class_line, token_lines, token_text, IsNameable, BeginsWithToken, BeginToken}
 use Rattle.branch_resume.specs.Pending.{IsMalformedAt}
 use Rattle.branch_resume.specs.Lines.{BeginsNoClass}
 use Rattle.branch_resume.proofs.ClassLines.{is_line, named_inside}
-
-abbrev pub bytes_of : List (List ℕ) → List ℕ
-bytes_of lines = flat_map (λ line. line) lines
 
 abbrev pub class_bytes : List Branch → List ℕ
 class_bytes classes = flat_map class_line classes
@@ -28,13 +25,6 @@ first_line = codes "pending\n"
 
 abbrev pub AreNameable : List Branch → Type 0
 AreNameable classes = AllByRecursion IsNameable classes
-
--- a line and what follows it, from the bytes
-pub cut_line : (line rest : List ℕ) (is : IsLine line) → (from_first 10 (line ++ rest) ≡ 10 ∷ rest) × (line ≡ before 10 (line ++ rest) ++ 10 ∷ [])
-cut_line line rest (front, free, is) =
-    let whole : line ++ rest ≡ front ++ 10 ∷ rest = ap (λ (xs : List ℕ). xs ++ rest) is ∙ append_assoc front (10 ∷ []) rest in
-    let cuts = first_again 10 front rest (all_each NoFeed front free) in
-    (ap (from_first 10) whole ∙ cuts.1, is ∙ ap (λ (xs : List ℕ). xs ++ 10 ∷ []) (sym cuts.0 ∙ sym (ap (before 10) whole)))
 
 -- bytes begin with one line
 pub same_line : (line other rest more : List ℕ) → IsLine line → IsLine other → line ++ rest ≡ other ++ more → (line ≡ other) × (rest ≡ more)
@@ -137,12 +127,8 @@ module _ (read : List Branch) (left : List ℕ) (named : AreNameable read) (stop
   class_lines_bytes [] = refl
   class_lines_bytes (class ∷ classes) = ap (λ (xs : List ℕ). class_line class ++ xs) (class_lines_bytes classes)
 
-  length_map : (classes : List Branch) → length (map class_line classes) ≡ length classes
-  length_map [] = refl
-  length_map (class ∷ classes) = ap suc (length_map classes)
-
   pub malformed_after : IsMalformedAt (first_line ++ (class_bytes read ++ left)) (length read + 2)
-  malformed_after = let size = length_map read in record {
+  malformed_after = let size = length-map read class_line in record {
     some = λ none. absurd (cc);
     none = no_token;
     before = first_line ∷ map class_line read;

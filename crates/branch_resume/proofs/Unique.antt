@@ -1,31 +1,25 @@
 -- Bytes are read in one way: the lines of tokens are the same, so their classes have the same places, and where one is
 -- refused the other is.
-use Rattle.std.proofs.Common.{◌≡◌, ◌⊎◌, refl, sym, ap, ◌∙◌, subst, ℕ, ◌+◌, ◌<◌, ◌≤◌, List, [], ◌∷◌, ◌++◌, length, map, codes, inl, inr, All, AllPairs, get_or, append_assoc, append-nil, arith}
+use Rattle.std.proofs.Common.{◌≡◌, ◌⊎◌, refl, sym, ap, ◌∙◌, subst, ℕ, ◌+◌, ◌<◌, List, [], ◌∷◌, ◌++◌, length, map, codes, inl, inr, All, AllPairs, get_or, append_assoc, append-nil, arith}
 use Rattle.std.specs.List.{AllByRecursion}
 use Rattle.std.proofs.lemmas.Bool.{cases_order}
+use Rattle.std.proofs.lemmas.List.{map-append}
 use Rattle.std.proofs.lemmas.List.Elements.{Contains-get_or}
 use Rattle.net_values.specs.declared.limits.TheConstants.{MAX_PLACES}
 use Rattle.certificates.specs.BadLines.{IsLine}
 use Rattle.certificates.proofs.LineWords.{IsText, text_free}
-use Rattle.certificates.proofs.ReadLines.{NoFeed}
+use Rattle.certificates.proofs.LineSplits.{NoFeed, bytes_of}
+use Rattle.pnml_grammar.proofs.EachLaws.{each_front, each_back}
 use Rattle.siphon_branch.proofs.Divisions.{pairs_across}
 use Rattle.certificates.proofs.Lists.{all_each, each_all, each_append, each_mapped, each_map}
 use Rattle.siphon_branch.specs.declared.branch.Branch.{Branch}
 use Rattle.siphon_branch.specs.Classes.{AreDisjoint, HasSize}
 use Rattle.branch_resume.specs.Tokens.{class_line, token_lines, token_text, IsNameable, BeginsWithToken, BeginToken}
 use Rattle.branch_resume.specs.Pending.{ReadsPending, StandsFor, IsMalformedAt, IsOfNet, IsRefused, IsRejectedAt}
-use Rattle.branch_resume.specs.Laws.{OnePendingReading, OneReading, TokensAreReadBack}
+use Rattle.branch_resume.specs.Laws.{OneReading, TokensAreReadBack}
 use Rattle.branch_resume.proofs.Places.{same_places}
 use Rattle.branch_resume.proofs.ClassLines.{HaveSamePlaces, named_inside, same_class, same_line_places, sized_inside, sized_named}
-use Rattle.branch_resume.proofs.TokenLines.{AreNameable, bytes_of, class_is_line, end_line, one_token, same_line}
-
-each_left : {X : Type 0} (P : X → Type 0) (xs ys : List X) → AllByRecursion P (xs ++ ys) → AllByRecursion P xs
-each_left P [] ys each = tt
-each_left P (x ∷ xs) ys each = (each.0, each_left P xs ys each.1)
-
-each_right : {X : Type 0} (P : X → Type 0) (xs ys : List X) → AllByRecursion P (xs ++ ys) → AllByRecursion P ys
-each_right P [] ys each = each
-each_right P (x ∷ xs) ys each = each_right P xs ys each.1
+use Rattle.branch_resume.proofs.TokenLines.{AreNameable, class_is_line, end_line, one_token, same_line}
 
 -- ---- one list of classes
 
@@ -72,7 +66,7 @@ token_each_line classes named = (
 )
 
 begin_lines : (lines : List (List ℕ)) → BeginToken lines → AllByRecursion IsLine lines
-begin_lines lines begin = each_left IsLine lines begin.more (subst (AllByRecursion IsLine) begin.begins (token_each_line begin.classes (all_each IsNameable begin.classes begin.nameable)))
+begin_lines lines begin = each_front IsLine lines begin.more (subst (AllByRecursion IsLine) begin.begins (token_each_line begin.classes (all_each IsNameable begin.classes begin.nameable)))
 
 -- of two lists of lines of the same bytes one begins with the other
 record IsLonger (one two : List (List ℕ)) (end : List ℕ) : Type 0 where
@@ -162,7 +156,7 @@ module _ (places : ℕ) (one : List Branch) (class : Branch) (two : List Branch)
   all_two = subst AreNameable twin.parts also
 
   twin_named : IsNameable twin.twin
-  twin_named = (each_right IsNameable fronts (twin.twin ∷ twin.more) all_two).0
+  twin_named = (each_back IsNameable fronts (twin.twin ∷ twin.more) all_two).0
 
   twin_alike : HaveSamePlaces class twin.twin
   twin_alike = alike class twin.twin is twin_named twin.line
@@ -171,7 +165,7 @@ module _ (places : ℕ) (one : List Branch) (class : Branch) (two : List Branch)
   good_each = subst (AllByRecursion (IsOfNet places)) twin.parts (all_each (IsOfNet places) two good)
 
   twin_good : IsOfNet places twin.twin
-  twin_good = (each_right (IsOfNet places) fronts (twin.twin ∷ twin.more) good_each).0
+  twin_good = (each_back (IsOfNet places) fronts (twin.twin ∷ twin.more) good_each).0
 
   pairs_all : AllPairs AreDisjoint (fronts ++ twin.twin ∷ twin.more)
   pairs_all = subst (AllPairs AreDisjoint) twin.parts disjoint
@@ -189,7 +183,7 @@ module _ (places : ℕ) (one : List Branch) (class : Branch) (two : List Branch)
       (apart_alike earlier class other twin.twin (alike earlier other named.0 also.0 heads) twin_alike apart.0, each_apart list front named.1 also.1 tails apart.1)
 
   all_apart : All (λ earlier. AreDisjoint earlier class) one
-  all_apart = each_all (λ earlier. AreDisjoint earlier class) one (each_apart one fronts named (each_left IsNameable fronts (twin.twin ∷ twin.more) all_two) twin.lines front_apart)
+  all_apart = each_all (λ earlier. AreDisjoint earlier class) one (each_apart one fronts named (each_front IsNameable fronts (twin.twin ∷ twin.more) all_two) twin.lines front_apart)
 
   pub not_refused : IsRefused places one class → ⊥
   not_refused refused = elim refused [
@@ -197,18 +191,14 @@ module _ (places : ℕ) (one : List Branch) (class : Branch) (two : List Branch)
     | inr some ↦ some.4 (subst (λ (earlier : Branch). AreDisjoint earlier class) some.3 (all_apart some.0 some.1 some.2))
   ]
 
-map_append : (f : Branch → List ℕ) (xs ys : List Branch) → map f (xs ++ ys) ≡ map f xs ++ map f ys
-map_append f [] ys = refl
-map_append f (x ∷ xs) ys = ap (λ (lines : List (List ℕ)). f x ∷ lines) (map_append f xs ys)
-
 not_before : (places : ℕ) (bytes : List ℕ) (one other : ℕ) (first : IsRejectedAt places bytes one) (second : IsRejectedAt places bytes other) → length first.before < length second.before → ⊥
 not_before places bytes one other first second less =
     let lines = one_token bytes (first.before ++ first.class ∷ first.after) (second.before ++ second.class ∷ second.after) first.token second.token in
-    let twin = twin_of first.before first.class first.after second.before (map class_line (second.class ∷ second.after)) (lines ∙ map_append class_line second.before (second.class ∷ second.after)) less in
+    let twin = twin_of first.before first.class first.after second.before (map class_line (second.class ∷ second.after)) (lines ∙ map-append class_line second.before (second.class ∷ second.after)) less in
     let named = all_each IsNameable (first.before ++ first.class ∷ first.after) first.token.nameable in
     let also = all_each IsNameable (second.before ++ second.class ∷ second.after) second.token.nameable in
-    not_refused places first.before first.class second.before (each_left IsNameable first.before (first.class ∷ first.after) named) (each_right IsNameable first.before (first.class ∷ first.after) named).0
-    (each_left IsNameable second.before (second.class ∷ second.after) also) twin second.good second.disjoint first.refused
+    not_refused places first.before first.class second.before (each_front IsNameable first.before (first.class ∷ first.after) named) (each_back IsNameable first.before (first.class ∷ first.after) named).0
+    (each_front IsNameable second.before (second.class ∷ second.after) also) twin second.good second.disjoint first.refused
 
 one_rejected : (places : ℕ) (bytes : List ℕ) (one other : ℕ) → IsRejectedAt places bytes one → IsRejectedAt places bytes other → one ≡ other
 one_rejected places bytes one other first second = elim (cases_order (length first.before) (length second.before)) [
@@ -239,7 +229,7 @@ read_or_rejected places bytes classes line read rejected = go read.spelled where
       let twin = twin_of rejected.before rejected.class rejected.after classes [] (lines ∙ sym (append-nil (map class_line classes))) size in
       let named = all_each IsNameable (rejected.before ++ rejected.class ∷ rejected.after) rejected.token.nameable in
       let good : All (IsOfNet places) classes = λ k d below. sized_inside places (get_or classes k d) (read.pending.sizes k d below) in
-      not_refused places rejected.before rejected.class classes (each_left IsNameable rejected.before (rejected.class ∷ rejected.after) named) (each_right IsNameable rejected.before (rejected.class ∷ rejected.after) named).0
+      not_refused places rejected.before rejected.class classes (each_front IsNameable rejected.before (rejected.class ∷ rejected.after) named) (each_back IsNameable rejected.before (rejected.class ∷ rejected.after) named).0
       (all_each IsNameable classes token.nameable) twin good read.pending.disjoint rejected.refused
 
 pub one_reading : OneReading

@@ -19,7 +19,7 @@ use Rattle.certificates.proofs.DecimalTexts.{same_bytes, number_found, number_ag
 use Rattle.certificates.proofs.Lists.{all_each, each_all, each_map, each_mapped, each_append, Ascends, pairs_ascending, ascends_all, listed_found, listed_again}
 use Rattle.certificates.proofs.LineWords.{term_text, keyword_of, words_of, front_of, IsText, keyword_text, text_free}
 
-chained : {T U : Type 0} (f : T → Option U) (o : Option T) (u : U) → option_and_then f o ≡ Some u → (t : T) × (o ≡ Some t) × (f t ≡ Some u)
+pub chained : {T U : Type 0} (f : T → Option U) (o : Option T) (u : U) → option_and_then f o ≡ Some u → (t : T) × (o ≡ Some t) × (f t ≡ Some u)
 chained f None u e = absurd (cc)
 chained f (Some t) u e = (t, refl, e)
 

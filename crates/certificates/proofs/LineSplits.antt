@@ -11,7 +11,7 @@ use Rattle.certificates.proofs.Lists.{all_each, each_all}
 abbrev pub bytes_of : List (List ℕ) → List ℕ
 bytes_of lines = flat_map (λ line. line) lines
 
-abbrev NoFeed : ℕ → Type 0
+abbrev pub NoFeed : ℕ → Type 0
 NoFeed byte = byte ≢ 10
 
 none_first : (rest : List ℕ) → IsFree 10 rest → from_first 10 rest ≡ []
@@ -19,7 +19,7 @@ none_first [] free = refl
 none_first (byte ∷ rest) free = rw (other_test byte 10 free.0) (none_first rest free.1)
 
 -- a line and what follows it, from the bytes
-cut_line : (line rest : List ℕ) (is : IsLine line) → (from_first 10 (line ++ rest) ≡ 10 ∷ rest) × (line ≡ before 10 (line ++ rest) ++ 10 ∷ [])
+pub cut_line : (line rest : List ℕ) (is : IsLine line) → (from_first 10 (line ++ rest) ≡ 10 ∷ rest) × (line ≡ before 10 (line ++ rest) ++ 10 ∷ [])
 cut_line line rest (front, free, is) =
     let whole : line ++ rest ≡ front ++ 10 ∷ rest = ap (λ (xs : List ℕ). xs ++ rest) is ∙ append_assoc front (10 ∷ []) rest in
     let cuts = first_again 10 front rest (all_each NoFeed front free) in

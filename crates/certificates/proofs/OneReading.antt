@@ -13,10 +13,10 @@ use Rattle.certificates.specs.Lines.{spelled, line_in}
 use Rattle.certificates.specs.Moves.{next}
 use Rattle.certificates.specs.Spelling.{certificate_lines}
 use Rattle.certificates.proofs.Cuts.{IsFree}
-use Rattle.certificates.proofs.LineSplits.{bytes_of, same_lines, has_lines}
+use Rattle.certificates.proofs.LineSplits.{NoFeed, bytes_of, same_lines, has_lines}
 use Rattle.certificates.proofs.Lists.{all_each}
 use Rattle.certificates.proofs.Progressing.{values_of, certificate_read}
-use Rattle.certificates.proofs.ReadLines.{NoFeed, ReadTo, read_start, read_more, line_is_bad, end_is_bad, end_spells, lines_are, values_proper, are_lines, text_lines, spelled_read}
+use Rattle.certificates.proofs.ReadLines.{ReadTo, read_start, read_more, line_is_bad, end_is_bad, end_spells, lines_are, values_proper, are_lines, text_lines, spelled_read}
 
 abbrev HasReading : List ℕ → Type 0
 HasReading bytes = ((certificate : Certificate) × Spells certificate bytes) ⊎ ((number : ℕ) × IsBadLine bytes number)

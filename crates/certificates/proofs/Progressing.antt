@@ -4,6 +4,7 @@ use Rattle.std.proofs.Common.{◌≡◌, refl, sym, ap, ◌∙◌, subst, ℕ, z
 use Rattle.std.specs.Prelude.{nat_le}
 use Rattle.std.specs.List.{AllByRecursion}
 use Rattle.std.specs.Option.{option_and_then}
+use Rattle.std.proofs.lemmas.List.{map-append}
 use Rattle.net_values.specs.declared.limits.TheConstants.{MAX_PLACES}
 use Rattle.certificates.specs.declared.certificate.BoundLines.{BoundLines}
 use Rattle.certificates.specs.declared.certificate.Certificate.{Certificate}
@@ -61,10 +62,6 @@ Stands (AfterSiphon places) values = (values ≡ OpensBadSiphon ∷ Siphon place
 Stands (InTree tree due) values = (values ≡ OpensCommoner ∷ map Tree tree) × AllByRecursion IsTreeLine tree × AreDue tree 1 due
 Stands (Ended certificate) values = (values ≡ values_of certificate) × IsWellFormed certificate
 
-map_append : {X Y : Type 0} (f : X → Y) (xs ys : List X) → map f (xs ++ ys) ≡ map f xs ++ map f ys
-map_append f [] ys = refl
-map_append f (x ∷ xs) ys = ap (λ zs. f x ∷ zs) (map_append f xs ys)
-
 -- ---- a step keeps it
 
 due_trees : (lines : List TreeLine) (before : ℕ) → AreDue lines before 0 → AreTrees lines before
@@ -114,7 +111,7 @@ each_claim claims are =
     all_each IsClaim claims (λ k d below. record { place = are.places k d below; bound = are.bounds k d below; some = (are.flows k d below).0; flow = (are.flows k d below).1 })
 
 more_line : {X : Type 0} (f : X → Line) (first : List Line) (xs : List X) (x : X) → (first ++ map f xs) ++ f x ∷ [] ≡ first ++ map f (xs ++ x ∷ [])
-more_line f first xs x = append_assoc first (map f xs) (f x ∷ []) ∙ ap (λ ys. first ++ ys) (sym (map_append f xs (x ∷ [])))
+more_line f first xs x = append_assoc first (map f xs) (f x ∷ []) ∙ ap (λ ys. first ++ ys) (sym (map-append f xs (x ∷ [])))
 
 flow_stands : (flows : List (List (ℕ × ℤ))) (claims : List Claim) (least : ℕ) (flow : List (ℕ × ℤ)) (values : List Line) (later : Progress) →
     Stands (InBounds record { flows = flows; claims = claims } least) values → IsFlow flow → with_flow flows claims flow ≡ Some later → Stands later (values ++ Flow flow ∷ [])

@@ -1,9 +1,9 @@
 -- The progress of reading, against the lines of bytes: each line that was read is spelled by a value; where the next
 -- one can't follow, no certificate begins with it.
-use Rattle.std.proofs.Common.{◌≡◌, ◌≢◌, refl, sym, ap, ◌∙◌, subst, ℕ, suc, ◌+◌, List, [], ◌∷◌, ◌++◌, length, map, Option, Some, None, inl, inr, append_assoc, append-nil, arith}
+use Rattle.std.proofs.Common.{◌≡◌, refl, sym, ap, ◌∙◌, subst, ℕ, ◌+◌, List, [], ◌∷◌, ◌++◌, length, map, Some, None, inl, inr, append_assoc, append-nil, arith}
 use Rattle.std.specs.List.{flat_map, AllByRecursion}
 use Rattle.std.specs.Option.{option_and_then}
-use Rattle.std.proofs.lemmas.List.{append_cancel_right}
+use Rattle.std.proofs.lemmas.List.{append_cancel_right, length-append, length-map, map-append}
 use Rattle.certificates.specs.declared.certificate.Certificate.{Certificate}
 use Rattle.certificates.specs.declared.certificate.Certificate.TheVariants.{Bounds, BadSiphon, Commoner}
 use Rattle.certificates.specs.declared.line.Line.{Line}
@@ -19,12 +19,9 @@ use Rattle.certificates.specs.BadLines.{Spells, IsLine, BeginsCertificate, IsBad
 use Rattle.certificates.proofs.Cuts.{IsFree, first_parts, before_free}
 use Rattle.certificates.proofs.Lists.{all_each, each_all, each_append, each_map, each_mapped}
 use Rattle.certificates.proofs.LineWords.{front_of, keyword_of, words_of, spelled_is, keyword_text, text_free, joined_free}
-use Rattle.certificates.proofs.LineReading.{line_found, line_again, words_texts}
-use Rattle.certificates.proofs.LineSplits.{bytes_of, same_lines, has_lines}
+use Rattle.certificates.proofs.LineReading.{chained, line_found, line_again, words_texts}
+use Rattle.certificates.proofs.LineSplits.{NoFeed, bytes_of, same_lines, has_lines}
 use Rattle.certificates.proofs.Progressing.{values_of, read_on, read_append, certificate_read, completes, ended_is, each_claim}
-
-abbrev pub NoFeed : ℕ → Type 0
-NoFeed byte = byte ≢ 10
 
 -- ---- lines of certificates
 
@@ -32,21 +29,17 @@ map_map : {X : Type 0} (f : X → Line) (g : X → List ℕ) → ((x : X) → sp
 map_map f g each [] = refl
 map_map f g each (x ∷ xs) = λ i. each x i ∷ map_map f g each xs i
 
-map_append : {X Y : Type 0} (f : X → Y) (xs ys : List X) → map f (xs ++ ys) ≡ map f xs ++ map f ys
-map_append f [] ys = refl
-map_append f (x ∷ xs) ys = ap (λ zs. f x ∷ zs) (map_append f xs ys)
-
 pub lines_are : (certificate : Certificate) → certificate_lines certificate ≡ map spelled (values_of certificate)
 lines_are (Bounds lines) =
     let flows = map_map Flow flow_line (λ flow. refl) lines.flows in
     let claims = map_map Bound bound_line (λ claim. refl) lines.claims in
     let inner : map spelled (map Flow lines.flows ++ map Bound lines.claims) ≡ map flow_line lines.flows ++ map bound_line lines.claims =
-    map_append spelled (map Flow lines.flows) (map Bound lines.claims) ∙ (λ i. flows i ++ claims i) in
-    ap (λ (xs : List (List ℕ)). spelled OpensBounds ∷ xs) (sym (map_append spelled (map Flow lines.flows ++ map Bound lines.claims) (Ends ∷ []) ∙ ap (λ (xs : List (List ℕ)). xs ++ spelled Ends ∷ []) inner))
+    map-append spelled (map Flow lines.flows) (map Bound lines.claims) ∙ (λ i. flows i ++ claims i) in
+    ap (λ (xs : List (List ℕ)). spelled OpensBounds ∷ xs) (sym (map-append spelled (map Flow lines.flows ++ map Bound lines.claims) (Ends ∷ []) ∙ ap (λ (xs : List (List ℕ)). xs ++ spelled Ends ∷ []) inner))
 lines_are (BadSiphon places) = refl
 lines_are (Commoner tree) =
     ap (λ (xs : List (List ℕ)). spelled OpensCommoner ∷ xs)
-    (sym (map_append spelled (map Tree tree) (Ends ∷ []) ∙ ap (λ (xs : List (List ℕ)). xs ++ spelled Ends ∷ []) (map_map Tree tree_line (λ line. refl) tree)))
+    (sym (map-append spelled (map Tree tree) (Ends ∷ []) ∙ ap (λ (xs : List (List ℕ)). xs ++ spelled Ends ∷ []) (map_map Tree tree_line (λ line. refl) tree)))
 
 pub values_proper : (certificate : Certificate) → IsWellFormed certificate → AllByRecursion IsProper (values_of certificate)
 values_proper (Bounds lines) well = (
@@ -103,18 +96,6 @@ bytes_append : (lines more : List (List ℕ)) → bytes_of (lines ++ more) ≡ b
 bytes_append [] more = refl
 bytes_append (line ∷ lines) more = ap (λ (xs : List ℕ). line ++ xs) (bytes_append lines more) ∙ sym (append_assoc line (bytes_of lines) (bytes_of more))
 
-length_append : {X : Type 0} (xs : List X) (x : X) → length (xs ++ x ∷ []) ≡ length xs + 1
-length_append [] x = omega arith
-length_append (y ∷ xs) x = let h = length_append xs x in omega (arith, h)
-
-length_map : {X Y : Type 0} (f : X → Y) (xs : List X) → length (map f xs) ≡ length xs
-length_map f [] = refl
-length_map f (x ∷ xs) = ap suc (length_map f xs)
-
-chained : {T U : Type 0} (f : T → Option U) (o : Option T) (u : U) → option_and_then f o ≡ Some u → (t : T) × (o ≡ Some t) × (f t ≡ Some u)
-chained f None u e = absurd (cc)
-chained f (Some t) u e = (t, refl, e)
-
 pub read_more : (bytes rest line after : List ℕ) (progress later : Progress) (number : ℕ) → ReadTo bytes rest progress number →
     rest ≡ line ++ 10 ∷ after → option_and_then (next progress) (line_in line) ≡ Some later → ReadTo bytes after later (number + 1)
 read_more bytes rest line after progress later number h parts moves =
@@ -124,8 +105,8 @@ read_more bytes rest line after progress later number h parts moves =
     ap (λ (xs : List ℕ). xs ++ 10 ∷ after) f.0 ∙ sym (append_assoc (front_of c.0) (10 ∷ []) after) ∙ ap (λ (xs : List ℕ). xs ++ after) (sym (spelled_is c.0)) in
     let lines : bytes_of (map spelled h.values) ++ rest ≡ bytes_of (map spelled (h.values ++ c.0 ∷ [])) ++ after =
     ap (λ (xs : List ℕ). bytes_of (map spelled h.values) ++ xs) (parts ∙ spelled_so) ∙ sym (append_assoc (bytes_of (map spelled h.values)) (spelled c.0) after)
-    ∙ ap (λ (xs : List ℕ). xs ++ after) (ap (λ (xs : List ℕ). bytes_of (map spelled h.values) ++ xs) (sym (append-nil (spelled c.0))) ∙ sym (bytes_append (map spelled h.values) (spelled c.0 ∷ [])) ∙ sym (ap bytes_of (map_append spelled h.values (c.0 ∷ [])))) in
-    let size = length_append h.values c.0 in
+    ∙ ap (λ (xs : List ℕ). xs ++ after) (ap (λ (xs : List ℕ). bytes_of (map spelled h.values) ++ xs) (sym (append-nil (spelled c.0))) ∙ sym (bytes_append (map spelled h.values) (spelled c.0 ∷ [])) ∙ sym (ap bytes_of (map-append spelled h.values (c.0 ∷ [])))) in
+    let size = length-append h.values (c.0 ∷ []) in
     let count = h.count in
     record {
       values = h.values ++ c.0 ∷ [];
@@ -146,7 +127,7 @@ begins_by values progress proper read =
       certificate = h.certificate;
       well_formed = e.1;
       more = map spelled h.more;
-      begins = lines_are h.certificate ∙ ap (map spelled) (sym e.0) ∙ map_append spelled values h.more;
+      begins = lines_are h.certificate ∙ ap (map spelled) (sym e.0) ∙ map-append spelled values h.more;
     }
 
 -- a list of proper lines that begins as another one
@@ -199,7 +180,7 @@ line_is_bad bytes rest line after progress number h parts free stops =
       parts = record { each = each_all IsLine (before ++ ended ∷ later.lines) each; unended = each_all NoFeed later.rest later.free; joined = whole };
       begins = begins_by h.values progress h.proper h.read;
       bad = inl (ended, later.lines, refl, not_begun h.values progress line h.proper h.read stops);
-      count = h.count ∙ ap (λ (n : ℕ). n + 1) (sym (length_map spelled h.values));
+      count = h.count ∙ ap (λ (n : ℕ). n + 1) (sym (length-map h.values spelled));
     }
 
 -- ---- at the end
@@ -231,7 +212,7 @@ end_is_bad bytes rest progress number h free open' =
       };
       begins = begins_by h.values progress h.proper h.read;
       bad = inr (refl, λ certificate spells. let s = spelled_read certificate bytes rest progress number spells h free in open' certificate s.0 s.1);
-      count = h.count ∙ ap (λ (n : ℕ). n + 1) (sym (length_map spelled h.values));
+      count = h.count ∙ ap (λ (n : ℕ). n + 1) (sym (length-map h.values spelled));
     }
 
 pub end_spells : (bytes rest : List ℕ) (progress : Progress) (number : ℕ) (certificate : Certificate) → ReadTo bytes rest progress number → progress ≡ Ended certificate → rest ≡ [] → Spells certificate bytes

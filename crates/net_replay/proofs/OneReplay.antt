@@ -3,6 +3,7 @@ use Rattle.std.proofs.Common.{◌≡◌, ◌⊎◌, refl, sym, ◌∙◌, subst,
 use Rattle.std.specs.Prelude.{◌↔◌, IsTrue}
 use Rattle.std.specs.List.{range_with_len}
 use Rattle.std.proofs.lemmas.Bool.{cases_eq}
+use Rattle.std.proofs.lemmas.Bool.Decides.{same_from_decides}
 use Rattle.std.proofs.lemmas.List.FromFn.{get_or-map-range_with_len, length-map-range_with_len}
 use Rattle.std.proofs.lemmas.Grind.{same_number_lists}
 use Rattle.net_values.specs.Net.{Net}
@@ -31,12 +32,6 @@ module _ (net : Net) where
 
   -- ---- one replay
 
-  same_truth : (a b : Bool) (P : Type 0) → IsTrue a ↔ P → IsTrue b ↔ P → a ≡ b
-  same_truth true true P one other = refl
-  same_truth true false P one other = sym (other.1 (one.0 refl))
-  same_truth false true P one other = one.1 (other.0 refl)
-  same_truth false false P one other = refl
-
   abbrev with_parts : List ℕ → List ℕ → Bool → Replay
   with_parts marking counts semiflow = record { marking = marking; counts = counts; semiflow = semiflow }
 
@@ -47,7 +42,7 @@ module _ (net : Net) where
       let counts : one.counts ≡ other.counts = same_number_lists one.counts other.counts (is.counts.size ∙ sym also.counts.size)
       (λ k below. let within : k < net.transitions = subst (λ n. k < n) is.counts.size below in is.counts.each k within ∙ sym (also.counts.each k within))
       in
-      let semiflow : one.semiflow ≡ other.semiflow = same_truth one.semiflow other.semiflow (IsSemiflow (by_transition net) all_columns (slice_index one.counts)) is.semiflow
+      let semiflow : one.semiflow ≡ other.semiflow = same_from_decides {P = IsSemiflow (by_transition net) all_columns (slice_index one.counts)} one.semiflow other.semiflow is.semiflow
       (subst (λ (xs : List ℕ). IsTrue other.semiflow ↔ IsSemiflow (by_transition net) all_columns (slice_index xs)) (sym counts) also.semiflow)
       in
       λ i. with_parts (marking i) (counts i) (semiflow i)

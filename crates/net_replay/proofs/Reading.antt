@@ -10,9 +10,8 @@ use Rattle.std.specs.Prelude.{bytes_eq}
 use Rattle.net_values.specs.Net.{Net}
 use Rattle.certificates.specs.BadLines.{IsLine, AreLinesOf}
 use Rattle.certificates.proofs.Cuts.{IsFree}
-use Rattle.certificates.proofs.LineSplits.{bytes_of, same_lines, has_lines}
+use Rattle.certificates.proofs.LineSplits.{NoFeed, bytes_of, same_lines, has_lines}
 use Rattle.certificates.proofs.Lists.{all_each, each_all, each_append}
-use Rattle.certificates.proofs.ReadLines.{NoFeed}
 use Rattle.net_replay.specs.FiringLists.{IsFiringLine, HasNoTransition, ListsFirings, EndsFirings, IsBadFiringLine}
 use Rattle.net_replay.specs.Laws.{AFiringListOrABadLine, OneFiringList}
 use Rattle.net_replay.specs.Numbers.{IsFoundFrom}

@@ -7,6 +7,7 @@ use Rattle.net_values.specs.declared.document.Item.{Item}
 use Rattle.net_values.specs.declared.document.ArcNode.{ArcNode}
 use Rattle.net_values.specs.FlatNets.{NetLists, KeepsNodes, AddsInput, AddsOutput}
 use Rattle.pnml_grammar.specs.Valued.{HasValuesInRange}
+use Rattle.pnml_grammar.proofs.EachLaws.{each_append}
 use Rattle.page_flatten.specs.declared.links.End.{End}
 use Rattle.page_flatten.specs.declared.links.End.TheVariants.{AtPlace, AtTransition}
 use Rattle.page_flatten.specs.Joints.{IsJoint, joint_between}
@@ -17,7 +18,7 @@ use Rattle.page_flatten.specs.Elements.{arcs}
 use Rattle.page_flatten.specs.Flat.{weight_between}
 use Rattle.page_flatten.specs.Tables.{table_ids, EndsById, LinksJoin, LinksStayWithin, IsEndWithin, IsResolvedBy, AddsArcs}
 use Rattle.page_flatten.proofs.ChainLaws.{one_end, ends_at_number}
-use Rattle.page_flatten.proofs.Passes.{Passed, item_and_rest, each_append}
+use Rattle.page_flatten.proofs.Passes.{Passed, item_and_rest}
 
 zip_append : {A B : Type 0} (R : A → B → Type 0) (xs us : List A) (ys vs : List B) → AllZip R xs ys → AllZip R us vs → AllZip R (xs ++ us) (ys ++ vs)
 zip_append R [] us [] vs a b = b

@@ -4,9 +4,10 @@ use Rattle.std.proofs.Common.{◌≡◌, refl, sym, ap, ◌∙◌, subst, ℕ, z
 use Rattle.std.proofs.Math.Seq.{take_all}
 use Rattle.std.specs.List.{AllByRecursion, AllZip}
 use Rattle.net_values.specs.declared.document.NetTree.{NetTree}
+use Rattle.pnml_grammar.proofs.EachLaws.{each_append}
 use Rattle.page_flatten.specs.Rules.{AreDistinct, HasDistinctIds, ids_of, ids_in, IsFirstWithout, IsFirstIn}
 use Rattle.page_flatten.proofs.Lists.{some_is, get_front}
-use Rattle.page_flatten.proofs.Passes.{each_append, none_first}
+use Rattle.page_flatten.proofs.Passes.{none_first}
 
 -- ---- lists
 

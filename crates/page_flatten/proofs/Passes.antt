@@ -3,23 +3,15 @@
 use Rattle.std.proofs.Common.{◌≡◌, refl, sym, ap, ◌∙◌, subst, ℕ, ◌+◌, ◌<◌, ◌≤◌, List, [], ◌∷◌, ◌++◌, length, drop, get_or, append_assoc}
 use Rattle.std.specs.List.{flat_map, AllByRecursion}
 use Rattle.std.proofs.lemmas.List.{append-nil, drop_more, drop_all}
+use Rattle.pnml_grammar.proofs.EachLaws.{each_append, each_back, each_front, each_weaker}
 use Rattle.page_flatten.specs.Rules.{IsFirstWithout}
 
 -- the item that is read, and those after it
 pub item_and_rest : {X : Type 0} (items : List X) (k : ℕ) (item : X) → k < length items → item ≡ get_or items k item → drop k items ≡ item ∷ drop (k + 1) items
 item_and_rest items k item within is = drop_more items k item within ∙ ap (λ x. x ∷ drop (k + 1) items) (sym is)
 
-pub each_append : {Y : Type 0} (P : Y → Type 0) (xs ys : List Y) → AllByRecursion P xs → AllByRecursion P ys → AllByRecursion P (xs ++ ys)
-each_append P [] ys a b = b
-each_append P (x ∷ xs) ys a b = (a.0, each_append P xs ys a.1 b)
-
 pub each_after : {Y : Type 0} (P : Y → Type 0) (xs ys : List Y) → AllByRecursion P (xs ++ ys) → AllByRecursion P xs × AllByRecursion P ys
-each_after P [] ys a = (tt, a)
-each_after P (x ∷ xs) ys a = let rest = each_after P xs ys a.1 in ((a.0, rest.0), rest.1)
-
-pub each_weaker : {Y : Type 0} (P Q : Y → Type 0) → ((y : Y) → P y → Q y) → (ys : List Y) → AllByRecursion P ys → AllByRecursion Q ys
-each_weaker P Q weaker [] a = tt
-each_weaker P Q weaker (y ∷ ys) a = (weaker y a.0, each_weaker P Q weaker ys a.1)
+each_after P xs ys a = (each_front P xs ys a, each_back P xs ys a)
 
 pub first_same : {Y : Type 0} (P Q : Y → Type 0) → ((y : Y) → P y → Q y) → ((y : Y) → Q y → P y) → (ys : List Y) (y : Y) → IsFirstWithout P ys y → IsFirstWithout Q ys y
 first_same P Q there back ys y first = record {

@@ -7,6 +7,7 @@ use Rattle.net_values.specs.declared.document.ArcNode.{ArcNode}
 use Rattle.net_values.specs.declared.document.Item.{Item}
 use Rattle.net_values.specs.declared.document.Item.TheVariants.{Page, PageEnd, Place, Transition, RefPlace, RefTransition, Arc}
 use Rattle.net_values.specs.FlatNets.{NetLists, transition_ids}
+use Rattle.pnml_grammar.proofs.EachLaws.{each_weaker}
 use Rattle.page_flatten.specs.declared.fault.FlatFault.{FlatFault}
 use Rattle.page_flatten.specs.declared.fault.FlatFault.TheVariants.{NoMemory, DuplicateId, UnknownId, RefKind, RefCycle, ArcEnds, NoNet}
 use Rattle.page_flatten.specs.declared.links.End.{End}
@@ -21,7 +22,7 @@ use Rattle.page_flatten.specs.Passes.{NamesUnending, NamesWrongArc}
 use Rattle.page_flatten.specs.Flat.{FlatArc, IsResolved, FlatOf, flat_places, flat_transitions}
 use Rattle.page_flatten.specs.Tables.{table_ids, EndsAt, EndsById, HaveSameEnds, AreLinksOf, AreSettled, ItsLinksEnd, LinksJoin, IsFirstEndless, IsFirstMisjoined, IsEndWithin, LinksStayWithin, IsResolvedBy, AddsArcs, HasNoArcs}
 use Rattle.page_flatten.proofs.Lists.{some_is}
-use Rattle.page_flatten.proofs.Passes.{each_weaker, first_same}
+use Rattle.page_flatten.proofs.Passes.{first_same}
 use Rattle.page_flatten.proofs.ChainLaws.{has_end, kept_by_id, sound_by_id}
 use Rattle.page_flatten.proofs.Meaning.{ends_by_id, resolves_by_id, linked_back, real_from_link}
 use Rattle.page_flatten.proofs.NumberLaws.{ids_are}

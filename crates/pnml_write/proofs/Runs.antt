@@ -6,7 +6,7 @@ use Rattle.std.specs.List.{position, position_or_len}
 use Rattle.std.proofs.Math.Nat.{sub-zero}
 use Rattle.std.proofs.lemmas.List.Sums.{prefix_len_passes}
 use Rattle.std.proofs.lemmas.Bool.Decides.{nat_tests}
-use Rattle.std.proofs.lemmas.Bool.{ltb-false}
+use Rattle.std.proofs.lemmas.Bool.{ltb-false, not-true}
 use Rattle.pnml_grammar.specs.Canon.{escape, escaped}
 use Rattle.pnml_write.specs.Escapes.{is_escaped}
 use Rattle.pnml_write.proofs.Pieces.{some_front}
@@ -54,14 +54,10 @@ none_below : (b : Bool) (n : ℕ) → cond b (Some n) None ≡ None → b ≡ fa
 none_below true n e = cc
 none_below false n e = refl
 
-passes_not : (b : Bool) → not b ≡ true → b ≡ false
-passes_not true e = cc
-passes_not false e = refl
-
 pub position_none : (test : ℕ → Bool) (bytes : List ℕ) → position test bytes ≡ None → (k : ℕ) → k < length bytes → test (get_or bytes k 0) ≡ false
 position_none test bytes e k below =
     let all : length bytes ≤ position_or_len test bytes = ltb-false _ _ (none_below _ (position_or_len test bytes) e) in
-    passes_not _ (prefix_len_passes (λ x. not (test x)) bytes k 0 (omega arith))
+    not-true _ (prefix_len_passes (λ x. not (test x)) bytes k 0 (omega arith))
 
 -- no byte is written as nothing
 some_choice : (b : Bool) (s t : List ℕ) → s ≢ [] → t ≢ [] → cond b s t ≢ []

@@ -3,7 +3,7 @@
 use Rattle.std.proofs.Common.{◌≡◌, ◌+◌, ◌<◌, ◌≤◌, refl, sym, ap, ◌∙◌, subst, ℕ, zero, suc, Bool, true, false, not, cond, List, [], ◌∷◌, ◌++◌, ◌↔◌, length, length-append, get_or, filter, take, All, Any, Contains, inl, inr, arith}
 use Rattle.std.specs.List.{list_any}
 use Rattle.std.specs.Prelude.{◌⊎◌, ◌||◌}
-use Rattle.std.proofs.lemmas.Bool.{false≢true}
+use Rattle.std.proofs.lemmas.Bool.{false≢true, not-true}
 use Rattle.std.proofs.Math.Seq.{get_or-append_seam, take-append_seam}
 use Rattle.std.proofs.lemmas.List.Elements.{All-nil, All-tail, All-cons, All-push, All-filter, Contains-get_or, Contains-push, Contains-append_left}
 use Rattle.std.proofs.lemmas.List.Kept.{AllPairs-filter}
@@ -49,10 +49,6 @@ none_passes test (x ∷ xs) h =
     let parts = both_false (test x) (list_any test xs) h in
     All-cons (λ x. test x ≡ false) x xs parts.0 (none_passes test xs parts.1)
 
-not_true : (b : Bool) → not b ≡ true → b ≡ false
-not_true true t = absurd (false≢true t)
-not_true false t = refl
-
 below_by_test : (old : List (List ℕ)) (row other : List ℕ) (b : Bool) → is_within row other ≡ b → Contains old other → length row ≡ length other → HasWithin (filter (λ other. not (is_within row other)) old ++ row ∷ []) other
 below_by_test old row other true inside here same =
     any_of (λ kept. IsWithin kept other) (filter (λ other. not (is_within row other)) old ++ row ∷ []) row (Contains-push (filter (λ other. not (is_within row other)) old) row) (within_true row other same inside)
@@ -77,7 +73,7 @@ offered_new old new row pool alike none is =
     let kept = filter passes old in
     let apart = All-passed passes (λ other. AreApart other row) old (λ k d within passed. record {
       forth = within_false (get_or old k d) row (alike k d within) (none_passes (λ other. is_within other row) old none k d within);
-      back = within_false row (get_or old k d) (sym (alike k d within)) (not_true (is_within row (get_or old k d)) passed);
+      back = within_false row (get_or old k d) (sym (alike k d within)) (not-true (is_within row (get_or old k d)) passed);
     })
     in
     let below = λ (k : ℕ) (d : List ℕ) (within : k < length old). below_by_test old row (get_or old k d) (is_within row (get_or old k d)) refl (Contains-get_or old k d within) (sym (alike k d within)) in
@@ -113,7 +109,7 @@ stays_exactly old new row alike is x =
     let kept = filter passes old in
     let each : All (StaysAfter old row) (kept ++ row ∷ []) =
     All-push (StaysAfter old row) kept row
-    (All-passed passes (StaysAfter old row) old (λ k d within passed. inl (Contains-get_or old k d within, within_false row (get_or old k d) (sym (alike k d within)) (not_true (is_within row (get_or old k d)) passed))))
+    (All-passed passes (StaysAfter old row) old (λ k d within passed. inl (Contains-get_or old k d within, within_false row (get_or old k d) (sym (alike k d within)) (not-true (is_within row (get_or old k d)) passed))))
     (inr refl)
     in
     let size : (old_at : Contains old x) → length row ≡ length x = λ old_at. sym (ap length (sym old_at.2) ∙ alike old_at.0 x old_at.1) in (

@@ -1,10 +1,11 @@
+use Rattle.pnml_grammar.proofs.EachLaws.{each_weaker}
 use Rattle.page_flatten.specs.Elements.{references, ReferenceTo}
 use Rattle.page_flatten.specs.Rules.{IsFirstWithout}
 use Rattle.page_flatten.specs.Tables.{ItsLinksEnd, IsFirstEndless}
 use Rattle.std.specs.List.{flat_map}
 use Rattle.page_flatten.proofs.ChainLaws.{same_ends_then, kept_reference, sound_reference}
 use Rattle.page_flatten.proofs.FaultLaws.{err_goes, endless_moves}
-use Rattle.page_flatten.proofs.Passes.{passed_more, failed_here, first_same, each_weaker}
+use Rattle.page_flatten.proofs.Passes.{passed_more, failed_here, first_same}
 use Rattle.page_flatten.proofs.chains.settle_references.Goals as goal
 
 pub returns-in_err-settle_reference_of-clause-fault : goal.returns-in_err-settle_reference_of-clause-fault
