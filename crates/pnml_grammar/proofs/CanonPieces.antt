@@ -209,19 +209,18 @@ tag_short close name attributes closes is plain =
       length-append (codes "<" ++ name) (attributes_text attributes),
     )
 
+tag_writes : (close name : List ℕ) (attributes : List Attribute) (token : Token) → is_printed close ≡ true → length close ≤ 2 → IsWord name → ArePlain attributes
+    → IsSpelling token (((codes "<" ++ name) ++ attributes_text attributes) ++ close) → ((rest : List ℕ) → MayFollow token rest) → Writes (((codes "<" ++ name) ++ attributes_text attributes) ++ close) (token ∷ [])
+tag_writes close name attributes token closes brief is plain spells follows =
+    writes_piece token (((codes "<" ++ name) ++ attributes_text attributes) ++ close) record { spells = spells; legal = tag_legal close name attributes closes is plain; short = tag_short close name attributes brief is plain } follows
+
 pub start_writes : (name : List ℕ) (attributes : List Attribute) → IsWord name → ArePlain attributes → Writes (start_tag name (attributes_text attributes)) (tokens.Start name attributes ∷ [])
 unfolding start_tag
-start_writes name attributes is plain =
-    writes_piece (tokens.Start name attributes) (start_tag name (attributes_text attributes))
-    (record { spells = tag_is (codes ">") name attributes is plain; legal = tag_legal (codes ">") name attributes refl is plain; short = tag_short (codes ">") name attributes (omega arith) is plain })
-    (λ rest. tt)
+start_writes name attributes is plain = tag_writes (codes ">") name attributes (tokens.Start name attributes) refl (omega arith) is plain (tag_is (codes ">") name attributes is plain) (λ rest. tt)
 
 pub empty_writes : (name : List ℕ) (attributes : List Attribute) → IsWord name → ArePlain attributes → Writes (empty_tag name (attributes_text attributes)) (tokens.Empty name attributes ∷ [])
 unfolding empty_tag
-empty_writes name attributes is plain =
-    writes_piece (tokens.Empty name attributes) (empty_tag name (attributes_text attributes))
-    (record { spells = tag_is (codes "/>") name attributes is plain; legal = tag_legal (codes "/>") name attributes refl is plain; short = tag_short (codes "/>") name attributes (omega arith) is plain })
-    (λ rest. tt)
+empty_writes name attributes is plain = tag_writes (codes "/>") name attributes (tokens.Empty name attributes) refl (omega arith) is plain (tag_is (codes "/>") name attributes is plain) (λ rest. tt)
 
 pub end_writes : (name : List ℕ) → IsWord name → Writes (end_tag name) (tokens.End name ∷ [])
 unfolding end_tag

@@ -8,58 +8,31 @@ use Rattle.pnml_grammar.specs.Documents.{HasFew}
 
 -- ---- contents
 
+same_content : {a b : Content} → a.documents ≡ b.documents → a.nets ≡ b.nets → a.items ≡ b.items → a.names ≡ b.names → a.numbers ≡ b.numbers → a.texts ≡ b.texts → a.bytes ≡ b.bytes → a.numerals ≡ b.numerals → a ≡ b
+same_content documents nets items names numbers texts bytes numerals =
+    λ i. record { documents = documents i; nets = nets i; items = items i; names = names i; numbers = numbers i; texts = texts i; bytes = bytes i; numerals = numerals i }
+
 pub then_nothing : (a : Content) → (a then nothing) ≡ a
-then_nothing a = λ i. record {
-  documents = append-nil a.documents i;
-  nets = append-nil a.nets i;
-  items = append-nil a.items i;
-  names = append-nil a.names i;
-  numbers = append-nil a.numbers i;
-  texts = append-nil a.texts i;
-  bytes = append-nil a.bytes i;
-  numerals = append-nil a.numerals i;
-}
+then_nothing a = same_content (append-nil _) (append-nil _) (append-nil _) (append-nil _) (append-nil _) (append-nil _) (append-nil _) (append-nil _)
 
 pub then_assoc : (a b c : Content) → ((a then b) then c) ≡ (a then (b then c))
-then_assoc a b c = λ i. record {
-  documents = append_assoc a.documents b.documents c.documents i;
-  nets = append_assoc a.nets b.nets c.nets i;
-  items = append_assoc a.items b.items c.items i;
-  names = append_assoc a.names b.names c.names i;
-  numbers = append_assoc a.numbers b.numbers c.numbers i;
-  texts = append_assoc a.texts b.texts c.texts i;
-  bytes = append_assoc a.bytes b.bytes c.bytes i;
-  numerals = append_assoc a.numerals b.numerals c.numerals i;
-}
+then_assoc a b c =
+    same_content (append_assoc a.documents _ _) (append_assoc a.nets _ _) (append_assoc a.items _ _) (append_assoc a.names _ _)
+    (append_assoc a.numbers _ _) (append_assoc a.texts _ _) (append_assoc a.bytes _ _) (append_assoc a.numerals _ _)
 
 -- ---- counts
 
+same_counts : {a b : Counts} → a.places ≡ b.places → a.transitions ≡ b.transitions → a.arcs ≡ b.arcs → a.references ≡ b.references → a.pages ≡ b.pages → a ≡ b
+same_counts places transitions arcs references pages = λ i. record { places = places i; transitions = transitions i; arcs = arcs i; references = references i; pages = pages i }
+
 pub plus_nothing : (a : Counts) → (a plus no_counts) ≡ a
-plus_nothing a = λ i. record {
-  places = add-zero a.places i;
-  transitions = add-zero a.transitions i;
-  arcs = add-zero a.arcs i;
-  references = add-zero a.references i;
-  pages = add-zero a.pages i;
-}
+plus_nothing a = same_counts (add-zero _) (add-zero _) (add-zero _) (add-zero _) (add-zero _)
 
 pub nothing_plus : (a : Counts) → (no_counts plus a) ≡ a
-nothing_plus a = λ i. record {
-  places = zero-add a.places i;
-  transitions = zero-add a.transitions i;
-  arcs = zero-add a.arcs i;
-  references = zero-add a.references i;
-  pages = zero-add a.pages i;
-}
+nothing_plus a = same_counts (zero-add _) (zero-add _) (zero-add _) (zero-add _) (zero-add _)
 
 pub plus_assoc : (a b c : Counts) → ((a plus b) plus c) ≡ (a plus (b plus c))
-plus_assoc a b c = λ i. record {
-  places = add_assoc a.places b.places c.places i;
-  transitions = add_assoc a.transitions b.transitions c.transitions i;
-  arcs = add_assoc a.arcs b.arcs c.arcs i;
-  references = add_assoc a.references b.references c.references i;
-  pages = add_assoc a.pages b.pages c.pages i;
-}
+plus_assoc a b c = same_counts (add_assoc a.places _ _) (add_assoc a.transitions _ _) (add_assoc a.arcs _ _) (add_assoc a.references _ _) (add_assoc a.pages _ _)
 
 -- fewer are within the limits too
 pub within_front : (a b : Counts) → IsWithin (a plus b) → IsWithin a

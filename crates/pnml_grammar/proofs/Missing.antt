@@ -1,6 +1,6 @@
 -- What an open element may lack in the end: the root its net, and the text of a number its number. A net without
 -- children, or a 1, makes it whole, and a document without a root is made whole by a root with such a net.
-use Rattle.std.proofs.Common.{◌≡◌, ℕ, ◌⊎◌, inl, inr, refl, sym, ap, ◌∙◌, List, [], ◌∷◌, ◌++◌, length, length-append, Option, Some, None, Bool, true, false, IsTrue, nat_le, codes, arith, true≢false}
+use Rattle.std.proofs.Common.{◌≡◌, ℕ, ◌⊎◌, inl, inr, refl, sym, ap, ◌∙◌, List, [], ◌∷◌, ◌++◌, length, length-append, Option, Some, None, Bool, true, false, IsTrue, nat_le, codes, subst, arith, true≢false}
 use Rattle.std.specs.List.{AllByRecursion}
 use Rattle.std.proofs.lemmas.Bool.{and_parts, leb-false, le-leb}
 use Rattle.net_values.specs.declared.document.Document.{Document}
@@ -14,9 +14,9 @@ use Rattle.pnml_grammar.specs.Elements.{element_named, context_in, context_if_an
 use Rattle.pnml_grammar.specs.Canon.{namespace, net_type}
 use Rattle.pnml_grammar.specs.Numerals.{number_in, numeral}
 use Rattle.pnml_grammar.specs.Trees.{Node, element, empty_element, characters, none, ◌and◌, node_tokens, node_height}
-use Rattle.pnml_grammar.specs.Contents.{Content, ◌then◌, node_content}
+use Rattle.pnml_grammar.specs.Contents.{Content, nothing, ◌then◌, characters_content, node_content}
 use Rattle.pnml_grammar.specs.Counts.{no_counts, node_counts}
-use Rattle.pnml_grammar.specs.Documents.{HasFew, is_complete, IsChild}
+use Rattle.pnml_grammar.specs.Documents.{HasFew, is_complete, may_have_characters, IsChild}
 use Rattle.pnml_grammar.specs.LegalTexts.{HasLegalTexts, HaveLegalValues}
 use Rattle.pnml_grammar.proofs.EscapeLaws.{printed_text}
 use Rattle.pnml_grammar.proofs.ContentLaws.{few_from, few_nothing}
@@ -76,6 +76,19 @@ none_yet xs e = let short = leb-false 1 (length xs) e in omega arith
 one_after : {A : Type 0} (xs : List A) (x : A) → nat_le 1 (length (xs ++ x ∷ [])) ≡ true
 one_after xs x = le-leb 1 (length (xs ++ x ∷ [])) (omega (arith, length-append xs (x ∷ [])))
 
+-- a 1 in the text of a number
+one_completes : (context : Context) (content : Content) → HasFew content → nat_le 1 (length content.numerals) ≡ false → IsTrue (may_have_characters context (codes "1"))
+    → characters_content context (codes "1") ≡ record nothing { numerals = 1 ∷ [] } → IsTrue (is_complete context (content then characters_content context (codes "1"))) → Completes context content (characters (codes "1"))
+one_completes context content few e child gives_one complete =
+    let lacks = none_yet content.numerals e in
+    record {
+      child = child;
+      few = subst (λ c. HasFew (content then c)) (sym gives_one) (few_from content (record nothing { numerals = 1 ∷ [] }) (omega arith));
+      complete = complete;
+      uncounted = refl;
+      legal = (printed_text (codes "1") refl, tt);
+    }
+
 pub missing_completes : (context : Context) (content : Content) → HasFew content → is_complete context content ≡ false → Completes context content (missing context)
 unfolding element_named element_names element_kinds number_in numeral
 missing_completes contexts.Pnml content few e =
@@ -87,24 +100,8 @@ missing_completes contexts.Pnml content few e =
       uncounted = refl;
       legal = (net_legal, tt);
     }
-missing_completes contexts.MarkingText content few e =
-    let lacks = none_yet content.numerals e in
-    record {
-      child = refl;
-      few = few_from content (node_content contexts.MarkingText (characters (codes "1"))) (omega arith);
-      complete = one_after content.numerals 1;
-      uncounted = refl;
-      legal = (printed_text (codes "1") refl, tt);
-    }
-missing_completes contexts.WeightText content few e =
-    let lacks = none_yet content.numerals e in
-    record {
-      child = refl;
-      few = few_from content (node_content contexts.WeightText (characters (codes "1"))) (omega arith);
-      complete = one_after content.numerals 1;
-      uncounted = refl;
-      legal = (printed_text (codes "1") refl, tt);
-    }
+missing_completes contexts.MarkingText content few e = one_completes contexts.MarkingText content few e refl refl (one_after content.numerals 1)
+missing_completes contexts.WeightText content few e = one_completes contexts.WeightText content few e refl refl (one_after content.numerals 1)
 missing_completes context content few e = absurd (true≢false e)
 
 -- but the net, which is in the root only, what is missing is no element

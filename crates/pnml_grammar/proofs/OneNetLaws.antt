@@ -14,34 +14,17 @@ use Rattle.pnml_grammar.specs.declared.element.Context.TheVariants as contexts
 use Rattle.pnml_grammar.specs.declared.token.Attribute.{Attribute}
 use Rattle.pnml_grammar.specs.Canon.{declaration, start_tag, attribute, namespace, net_text, end_tag, canon}
 use Rattle.pnml_grammar.specs.Valued.{IsWithinLimits}
-use Rattle.pnml_grammar.specs.Elements.{element_named, context_in, context_if_any, context_of_kind, context_of_text, may_hold, may_occur, may_occur_as}
+use Rattle.pnml_grammar.specs.Elements.{element_named, context_in, context_if_any, may_hold, may_occur, may_occur_as}
 use Rattle.pnml_grammar.specs.Trees.{Node, element, empty_element, comment, instruction, cdata, characters, Nodes, none, ◌and◌}
 use Rattle.pnml_grammar.specs.Contents.{Content, nothing, ◌then◌, gives, characters_content, cdata_content, node_content, nodes_content}
 use Rattle.pnml_grammar.specs.Documents.{HasFew, is_complete, IsFilled, IsChild, EachChild}
 use Rattle.pnml_grammar.specs.OneNet.{net_gives, node_given, nodes_given, HasOne, IsFilledOnce, IsNetChild, EachNetChild, net_canon, only, StaysForOneNet}
 use Rattle.pnml_grammar.proofs.EachLaws.{each_append}
 use Rattle.pnml_grammar.proofs.RowLaws.{is_outside}
+use Rattle.pnml_grammar.proofs.ReadingTrees.{inside_element}
 use Rattle.pnml_grammar.proofs.Missing.{root_is_outermost}
 
 -- ---- below the root
-
-text_inside : (context : Context) → is_outside (context_of_text context) ≡ false
-text_inside contexts.Name = refl
-text_inside contexts.InitialMarking = refl
-text_inside contexts.Inscription = refl
-text_inside context = refl
-
-kind_inside : (context : Context) (kind : ElementKind) → is_outside (context_of_kind context kind) ≡ false
-kind_inside context elements.Text = text_inside context
-kind_inside context kind = refl
-
-any_inside : (context : Context) (kind : Option ElementKind) → is_outside (context_if_any context kind) ≡ false
-any_inside context None = refl
-any_inside context (Some kind) = kind_inside context kind
-
-inner_inside : (context : Context) (kind : Option ElementKind) → is_outside (context_in context kind) ≡ false
-inner_inside contexts.Skipped kind = refl
-inner_inside context kind = any_inside context kind
 
 -- the same content, with no document
 record IsSame (old new : Content) : Type 0 where
@@ -71,7 +54,7 @@ mutual
   node_same : (context : Context) (node : Node) → is_outside context ≡ false → IsNetChild context node → IsSame (node_given context node) (node_content context node)
   node_same context (element name attributes children) inside child =
       let inner = context_in context (element_named name) in
-      let below = nodes_same inner children (inner_inside context (element_named name)) child.1 in
+      let below = nodes_same inner children (inside_element context (element_named name)) child.1 in
       gives_same inner attributes (nodes_given inner children) (nodes_content inner children) (no_root context name attributes inside child.0) below.same
   node_same context (empty_element name attributes) inside child =
       gives_same (context_in context (element_named name)) attributes nothing nothing (no_root context name attributes inside child.0) refl
@@ -102,7 +85,7 @@ mutual
   child_stays : (context : Context) (node : Node) → IsNetChild context node → IsChild context node
   child_stays context (element name attributes children) child =
       let inner = context_in context (element_named name) in
-      let below = nodes_same inner children (inner_inside context (element_named name)) child.1 in
+      let below = nodes_same inner children (inside_element context (element_named name)) child.1 in
       (child.0, children_stay inner children child.1, filled_once inner (nodes_given inner children) (nodes_content inner children) below child.2)
   child_stays context (empty_element name attributes) child =
       (child.0, filled_once (context_in context (element_named name)) nothing nothing (record { same = refl; no_document = refl }) child.1)
@@ -139,7 +122,7 @@ root_nets (Some kind) attributes old new occurs same complete = absurd (true≢f
 node_nets : (node : Node) → IsNetChild contexts.Document node → AreNets (node_given contexts.Document node) (node_content contexts.Document node)
 node_nets (element name attributes children) child =
     let inner = context_in contexts.Document (element_named name) in
-    let below = nodes_same inner children (inner_inside contexts.Document (element_named name)) child.1 in
+    let below = nodes_same inner children (inside_element contexts.Document (element_named name)) child.1 in
     root_nets (element_named name) attributes (nodes_given inner children) (nodes_content inner children) child.0 below.same
     (filled_once inner (nodes_given inner children) (nodes_content inner children) below child.2).complete
 node_nets (empty_element name attributes) child = root_nets (element_named name) attributes nothing nothing child.0 refl child.1.complete

@@ -12,11 +12,11 @@ use Rattle.pnml_grammar.specs.declared.token.Token.TheVariants as tokens
 use Rattle.pnml_grammar.specs.declared.token.Attribute.{Attribute}
 use Rattle.pnml_grammar.specs.Elements.{element_named, context_in, may_occur}
 use Rattle.pnml_grammar.specs.Trees.{Node, element, empty_element, comment, instruction, cdata, characters, Nodes, none, node_tokens, nodes_tokens, node_height, nodes_height}
-use Rattle.pnml_grammar.specs.Contents.{nothing, ◌then◌, node_content, nodes_content, cdata_content, characters_content}
+use Rattle.pnml_grammar.specs.Contents.{nothing, ◌then◌, node_content, nodes_content}
 use Rattle.pnml_grammar.specs.Counts.{no_counts, ◌plus◌, tag_counts, node_counts, nodes_counts, IsWithin}
 use Rattle.pnml_grammar.specs.Documents.{HasFew, is_complete, IsChild, EachChild, opening}
 use Rattle.pnml_grammar.specs.OpenElements.{Frame, State, Opened, Spot, IsAfter, opened_tokens, frame_of, frames_around, state_of}
-use Rattle.pnml_grammar.specs.Machine.{run, step, next, reason_of, after_declaration, reached}
+use Rattle.pnml_grammar.specs.Machine.{run, step, next, reason_of, after_declaration, reached, put}
 use Rattle.pnml_grammar.proofs.RunLaws.{bind_some, chosen, some_is}
 use Rattle.pnml_grammar.proofs.ContentLaws.{plus_nothing, few_nothing, within_front}
 use Rattle.pnml_grammar.proofs.FirstLaws.{second_in, few_after, few_same}
@@ -128,19 +128,23 @@ trivia_after spot token node one flat uncounted child gives_nothing same sound =
     (takes_flat spot node flat uncounted sound child (subst (λ c. HasFew ((state_of spot).top.content then c)) (sym gives_nothing) few))
     ((λ i. with_more (state_of spot) (gives_nothing i) (uncounted i)) ∙ (more_nothing (state_of spot) ∙ sym same))
 
+-- a token that gives what its node does, and is no element
+value_after : (spot : Spot) (token : Token) (node : Node) → node_tokens node ≡ token ∷ [] → node_height node ≡ 0 → node_counts (state_of spot).top.context node ≡ no_counts
+    → IsChild (state_of spot).top.context node → HasFew ((state_of spot).top.content then node_content (state_of spot).top.context node)
+    → next (state_of spot) token ≡ put (state_of spot) (node_content (state_of spot).top.context node) → IsSound spot → After spot token
+value_after spot token node one flat uncounted child few puts sound =
+    child_after spot token node one sound (takes_flat spot node flat uncounted sound child few)
+    ((λ i. with_more (state_of spot) (node_content (state_of spot).top.context node) (uncounted i)) ∙ sym (put_more (state_of spot) (node_content (state_of spot).top.context node)) ∙ sym puts)
+
 cdata_after : (spot : Spot) (value : List ℕ) → IsSound spot → reason_of (state_of spot) (tokens.Cdata value) ≡ None → After spot (tokens.Cdata value)
 cdata_after spot value sound e =
-    let top = (state_of spot).top in
-    let may = may_cdata top.context top.content value (holds_few spot.opened spot.outside sound.hold) e in
-    child_after spot (tokens.Cdata value) (cdata value) refl sound (takes_flat spot (cdata value) refl refl sound may.occurs may.few)
-    (sym (put_more (state_of spot) (cdata_content top.context value)))
+    let may = may_cdata (state_of spot).top.context (state_of spot).top.content value (holds_few spot.opened spot.outside sound.hold) e in
+    value_after spot (tokens.Cdata value) (cdata value) refl refl refl may.occurs may.few refl sound
 
 characters_after : (spot : Spot) (value : List ℕ) → IsSound spot → reason_of (state_of spot) (tokens.Characters value) ≡ None → After spot (tokens.Characters value)
 characters_after spot value sound e =
-    let top = (state_of spot).top in
-    let may = may_characters top.context top.content value (holds_few spot.opened spot.outside sound.hold) e in
-    child_after spot (tokens.Characters value) (characters value) refl sound (takes_flat spot (characters value) refl refl sound may.occurs may.few)
-    (sym (put_more (state_of spot) (characters_content top.context value)))
+    let may = may_characters (state_of spot).top.context (state_of spot).top.content value (holds_few spot.opened spot.outside sound.hold) e in
+    value_after spot (tokens.Characters value) (characters value) refl refl refl may.occurs may.few refl sound
 
 -- a tag
 empty_after : (spot : Spot) (name : List ℕ) (attributes : List Attribute) → IsSound spot → reason_of (state_of spot) (tokens.Empty name attributes) ≡ None → After spot (tokens.Empty name attributes)

@@ -163,26 +163,21 @@ net_low attributes h c each = record {
 label_low : (context : Context) (h : ℕ) (numerals : List ℕ) → AllByRecursion (λ number. 1 ≤ h) numerals → GivesLow context (suc h) (record nothing { numbers = first numerals ∷ [] })
 label_low context h numerals each = record { documents = tt; nets = tt; items = λ opened more low shallow. shallow; names = tt; numbers = (first_numeral h numerals each, tt); texts = tt; numerals = tt }
 
+numerals_low : (context : Context) (h : ℕ) (numerals : List ℕ) → AllByRecursion (λ number. numeral_height context ≤ h) numerals → GivesLow context h (record nothing { numerals = numerals })
+numerals_low context h numerals each = record {
+  documents = tt;
+  nets = tt;
+  items = λ opened more low shallow. shallow;
+  names = tt;
+  numbers = tt;
+  texts = tt;
+  numerals = each;
+}
+
 text_low : (context : Context) (attributes : List Attribute) (h : ℕ) (c : Content) → GivesLow (context_of_text context) h c → GivesLow context (suc h) (gives (context_of_text context) attributes c)
 text_low contexts.Name attributes h c each = record { documents = tt; nets = tt; items = λ opened more low shallow. shallow; names = tt; numbers = tt; texts = (omega arith, tt); numerals = tt }
-text_low contexts.InitialMarking attributes h c each = record {
-  documents = tt;
-  nets = tt;
-  items = λ opened more low shallow. shallow;
-  names = tt;
-  numbers = tt;
-  texts = tt;
-  numerals = each_weaker _ _ (λ number is. omega arith) c.numerals each.numerals;
-}
-text_low contexts.Inscription attributes h c each = record {
-  documents = tt;
-  nets = tt;
-  items = λ opened more low shallow. shallow;
-  names = tt;
-  numbers = tt;
-  texts = tt;
-  numerals = each_weaker _ _ (λ number is. omega arith) c.numerals each.numerals;
-}
+text_low contexts.InitialMarking attributes h c each = numerals_low contexts.InitialMarking (suc h) c.numerals (each_weaker _ _ (λ number is. omega arith) c.numerals each.numerals)
+text_low contexts.Inscription attributes h c each = numerals_low contexts.Inscription (suc h) c.numerals (each_weaker _ _ (λ number is. omega arith) c.numerals each.numerals)
 text_low context attributes h c each = nothing_low context (suc h)
 
 element_low : (context : Context) (kind : ElementKind) (attributes : List Attribute) (h : ℕ) (c : Content) → IsRightTag context kind attributes → GivesLow (context_of_kind context kind) h c

@@ -90,21 +90,14 @@ id_in_range key name kind attributes (Some value) is each legal e there =
 
 -- ---- the four attributes
 
-id_key : IsIdKey Id (codes "id")
+keys : IsIdKey Id (codes "id") × IsIdKey Source (codes "source") × IsIdKey Target (codes "target") × IsIdKey Ref (codes "ref")
 unfolding attribute_named attribute_names attribute_kinds
-id_key = record { named = refl; plain = refl; tested = λ kind value. refl }
-
-source_key : IsIdKey Source (codes "source")
-unfolding attribute_named attribute_names attribute_kinds
-source_key = record { named = refl; plain = refl; tested = λ kind value. refl }
-
-target_key : IsIdKey Target (codes "target")
-unfolding attribute_named attribute_names attribute_kinds
-target_key = record { named = refl; plain = refl; tested = λ kind value. refl }
-
-ref_key : IsIdKey Ref (codes "ref")
-unfolding attribute_named attribute_names attribute_kinds
-ref_key = record { named = refl; plain = refl; tested = λ kind value. refl }
+keys = (
+  record { named = refl; plain = refl; tested = λ kind value. refl },
+  record { named = refl; plain = refl; tested = λ kind value. refl },
+  record { named = refl; plain = refl; tested = λ kind value. refl },
+  record { named = refl; plain = refl; tested = λ kind value. refl },
+)
 
 record HasNeeded (kind : ElementKind) (attributes : List Attribute) : Type 0 where
   id : has_if_needed kind attributes Id (codes "id") ≡ true
@@ -138,8 +131,8 @@ ids_are_in_range kind attributes read e legal =
     let both = and_parts (list_all (fits kind) attributes) (has_needed kind attributes) (sym (ap (λ b. b || (list_all (fits kind) attributes && has_needed kind attributes)) read) ∙ e) in
     let there = needed_are kind attributes both.1 in
     record {
-      id = λ needed. id_in_range Id (codes "id") kind attributes _ id_key both.0 legal refl (is_there kind attributes Id (codes "id") needed there.id);
-      source = λ needed. id_in_range Source (codes "source") kind attributes _ source_key both.0 legal refl (is_there kind attributes Source (codes "source") needed there.source);
-      target = λ needed. id_in_range Target (codes "target") kind attributes _ target_key both.0 legal refl (is_there kind attributes Target (codes "target") needed there.target);
-      ref = λ needed. id_in_range Ref (codes "ref") kind attributes _ ref_key both.0 legal refl (is_there kind attributes Ref (codes "ref") needed there.ref);
+      id = λ needed. id_in_range Id (codes "id") kind attributes _ keys.0 both.0 legal refl (is_there kind attributes Id (codes "id") needed there.id);
+      source = λ needed. id_in_range Source (codes "source") kind attributes _ keys.1 both.0 legal refl (is_there kind attributes Source (codes "source") needed there.source);
+      target = λ needed. id_in_range Target (codes "target") kind attributes _ keys.2 both.0 legal refl (is_there kind attributes Target (codes "target") needed there.target);
+      ref = λ needed. id_in_range Ref (codes "ref") kind attributes _ keys.3 both.0 legal refl (is_there kind attributes Ref (codes "ref") needed there.ref);
     }
