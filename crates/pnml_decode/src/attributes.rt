@@ -40,8 +40,11 @@ pub(crate) fn has_namespace(element: ElementKind, attributes: &[Attribute]) -> b
 pub(crate) fn has_type(element: ElementKind, attributes: &[Attribute]) -> bool
     ensures { result ≡ has_type element attributes.now }
 {
-    match (element, value_of(b"type", attributes)) {
-        (ElementKind::Net, Some(value)) => value.as_bytes() == NET_TYPE,
+    match element {
+        ElementKind::Net => match value_of(b"type", attributes) {
+            Some(value) => value.as_bytes() == NET_TYPE,
+            None => true,
+        },
         _ => true,
     }
 }
@@ -100,10 +103,15 @@ fn is_id(value: &[u8]) -> bool
     1 <= value.len() && value.len() <= MAX_ID_BYTES && are_printed(value)
 }
 
+/// Without a way out in the loop, so that many bytes are compared at once.
 fn are_printed(value: &[u8]) -> bool
     ensures { result ≡ list_all (λ byte. nat_lt 32 byte && not (byte == 127)) value.now }
 {
-    value.iter().all(|byte| 32 < *byte && *byte != 127)
+    let mut all = true;
+    for byte in value {
+        all = all & (32 < *byte && *byte != 127);
+    }
+    all
 }
 
 #[tactic(auto, unfolding(pnml_grammar::specs::Elements::has_needed))]
