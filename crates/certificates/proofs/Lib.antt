@@ -10,3 +10,4 @@ pub mod ReadLines
 pub mod DueTrees
 pub mod OneReading
 pub mod Texts
+pub mod ShortNumbers

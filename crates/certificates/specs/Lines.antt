@@ -55,7 +55,7 @@ word_of TrapWord = codes "trap"
 word_of EndWord = codes "end"
 
 abbrev pub keywords : List Keyword
-keywords = BoundsWord ∷ BadSiphonWord ∷ CommonerWord ∷ FlowWord ∷ BoundWord ∷ SiphonWord ∷ SplitWord ∷ EmptyWord ∷ TrapWord ∷ EndWord ∷ []
+keywords = SplitWord ∷ EmptyWord ∷ TrapWord ∷ FlowWord ∷ BoundWord ∷ SiphonWord ∷ BoundsWord ∷ BadSiphonWord ∷ CommonerWord ∷ EndWord ∷ []
 
 unfoldable pub keyword_in : List ℕ → Option Keyword
 keyword_in word = find (λ keyword. bytes_eq (word_of keyword) word) keywords

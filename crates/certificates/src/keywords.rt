@@ -3,17 +3,17 @@ ghost use Rattle.certificates.specs.Lines.{keyword_in, word_of};
 
 use crate::line::Keyword;
 
-/// All first words of lines.
+/// All first words of lines, those first that a long certificate has most.
 const KEYWORDS: [Keyword; 10] = [
-    Keyword::BoundsWord,
-    Keyword::BadSiphonWord,
-    Keyword::CommonerWord,
-    Keyword::FlowWord,
-    Keyword::BoundWord,
-    Keyword::SiphonWord,
     Keyword::SplitWord,
     Keyword::EmptyWord,
     Keyword::TrapWord,
+    Keyword::FlowWord,
+    Keyword::BoundWord,
+    Keyword::SiphonWord,
+    Keyword::BoundsWord,
+    Keyword::BadSiphonWord,
+    Keyword::CommonerWord,
     Keyword::EndWord,
 ];
 

@@ -1,4 +1,4 @@
-ghost use Rattle.std.specs.Prelude.{◌≡◌, ◌<◌, ◌^◌, ℕ, Some, IfSome};
+ghost use Rattle.std.specs.Prelude.{◌≡◌, ◌+◌, ◌<◌, ◌^◌, ℕ, Some, IfSome, decimal};
 ghost use Rattle.certificates.specs.Lines.{amount_in, place_in, term_in};
 ghost use Rattle.certificates.specs.Words.{number_in};
 
@@ -21,7 +21,46 @@ fn read_number(least: u128, limit: u128, text: &[u8]) -> Option<u128>
 /// The number of a place.
 pub fn place(text: &[u8]) -> Option<u32>
     ensures value { result ≡ place_in text.now }
-    ensures range { IfSome result (λ p. p < 2048) }
+    ensures range { IfSome result (λ p. p < MAX_PLACES) }
+{
+    match short_number(text) {
+        Some(place) if place < MAX_PLACES as u32 => Some(place),
+        _ => long_place(text),
+    }
+}
+
+/// The number of which the text is the decimal one, digit by digit, where it is below 10,000.
+fn short_number(text: &[u8]) -> Option<u32>
+    ensures { IfSome result (λ n. (n < 10000) × (text.now ≡ decimal n)) }
+{
+    let [first, rest @ ..] = text else {
+        return None;
+    };
+    let mut number = digit(*first)?;
+    for byte in rest {
+        if number == 0 || number >= 1000 {
+            return None;
+        }
+        number = 10 * number + digit(*byte)?;
+    }
+    Some(number)
+}
+
+/// The number that a digit stands for.
+fn digit(byte: u8) -> Option<u32>
+    ensures { IfSome result (λ n. (n < 10) × (byte ≡ 48 + n)) }
+{
+    if b'0' <= byte && byte <= b'9' {
+        Some(u32::from(byte - b'0'))
+    } else {
+        None
+    }
+}
+
+/// The number of a place, where its text may be any.
+fn long_place(text: &[u8]) -> Option<u32>
+    ensures value { result ≡ place_in text.now }
+    ensures range { IfSome result (λ p. p < MAX_PLACES) }
 {
     let place = read_number(0, MAX_PLACES as u128, text)?;
     Some(place as u32)
@@ -46,7 +85,7 @@ pub(crate) fn amount(least: u128, text: &[u8]) -> Option<i128>
 /// A place of a flow with its coefficient.
 pub(crate) fn term(word: &[u8]) -> Option<(u32, i128)>
     ensures value { result ≡ term_in word.now }
-    ensures range { IfSome result (λ term. term.0 < 2048) }
+    ensures range { IfSome result (λ term. term.0 < MAX_PLACES) }
 {
     let (first, rest) = split(b':', word);
     let place = place(first)?;
