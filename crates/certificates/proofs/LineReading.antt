@@ -1,5 +1,5 @@
 -- The reader of a line is exact: it gives a line just where the line is proper and spelled so.
-use Rattle.std.proofs.Common.{◌≡◌, refl, sym, ap, ◌∙◌, subst, ℕ, ◌<◌, ◌≤◌, ◌^◌, Bool, true, false, cond, ℤ, pos, negsuc, List, [], ◌∷◌, ◌++◌, length, map, drop, decimal, Option, Some, None, inl, inr, arith}
+use Rattle.std.proofs.Common.{◌≡◌, refl, sym, ap, ◌∙◌, subst, ℕ, ◌<◌, ◌≤◌, ◌^◌, Bool, true, false, cond, ℤ, pos, negsuc, List, [], ◌∷◌, ◌++◌, AllPairs, get_or, length, map, drop, decimal, Option, Some, None, inl, inr, arith}
 use Rattle.std.specs.Prelude.{bytes_eq}
 use Rattle.std.specs.List.{find, AllByRecursion}
 use Rattle.std.specs.Option.{option_and_then, option_map}
@@ -128,24 +128,33 @@ pub record Says (keyword : Keyword) (words : List (List ℕ)) (line : Line) : Ty
   pub words_are : words ≡ words_of line
   pub proper : IsProper line
 
+-- one or more members that are read from words
+record Members {X : Type 0} (key : X → ℕ) (text : X → List ℕ) (Good : X → Type 0) (words : List (List ℕ)) (xs : List X) : Type 0 where
+  some : 1 ≤ length xs
+  ascending : AllPairs (λ one later. key one < key later) xs
+  good : (k : ℕ) (d : X) → k < length xs → Good (get_or xs k d)
+  words_are : words ≡ map text xs
+
+members_found : {X : Type 0} (read : List ℕ → Option X) (key : X → ℕ) (text : X → List ℕ) (Good : X → Type 0) → ((word : List ℕ) (x : X) → read word ≡ Some x → (word ≡ text x) × Good x) → (words : List (List ℕ)) (xs : List X)
+    → option_and_then some_of (listed read key 0 [] words) ≡ Some xs → Members key text Good words xs
+members_found read key text Good found words xs e =
+    let c = chained some_of (listed read key 0 [] words) xs e in
+    let s = some_found c.0 xs c.2 in
+    let h = listed_found read key text Good found 0 [] words c.0 c.1 in
+    let more_is : h.more ≡ xs = sym h.list_is ∙ s.0 in
+    record {
+      some = s.1;
+      ascending = pairs_ascending key 0 xs (subst (Ascends key 0) more_is h.ascends);
+      good = each_all Good xs (subst (AllByRecursion Good) more_is h.good);
+      words_are = h.words_are ∙ ap (map text) more_is;
+    }
+
 flow_found : (words : List (List ℕ)) (line : Line) → flow_in words ≡ Some line → Says FlowWord words line
 flow_found words line e =
-    let terms = listed term_in term_place 0 [] words in
-    let m = mapped Flow (option_and_then some_of terms) line e in
-    let c = chained some_of terms m.0 m.1 in
-    let s = some_found c.0 m.0 c.2 in
-    let h = listed_found term_in term_place term_text IsTerm term_found 0 [] words c.0 c.1 in
-    let more_is : h.more ≡ m.0 = sym h.list_is ∙ s.0 in
-    let good : AllByRecursion IsTerm m.0 = subst (AllByRecursion IsTerm) more_is h.good in
-    let all = each_all IsTerm m.0 good in
-    let ascends : Ascends term_place 0 m.0 = subst (Ascends term_place 0) more_is h.ascends in
-    let proper : IsFlow m.0 = record {
-      some = s.1;
-      ascending = pairs_ascending term_place 0 m.0 ascends;
-      places = λ k d below. (all k d below).0;
-      coefficients = λ k d below. (all k d below).1;
-    } in
-    subst (Says FlowWord words) m.2 record { keyword_is = refl; words_are = h.words_are ∙ ap (map term_text) more_is; proper = proper }
+    let m = mapped Flow (option_and_then some_of (listed term_in term_place 0 [] words)) line e in
+    let h = members_found term_in term_place term_text IsTerm term_found words m.0 m.1 in
+    let proper : IsFlow m.0 = record { some = h.some; ascending = h.ascending; places = λ k d below. (h.good k d below).0; coefficients = λ k d below. (h.good k d below).1 } in
+    subst (Says FlowWord words) m.2 record { keyword_is = refl; words_are = h.words_are; proper = proper }
 
 flow_again : (flow : List (ℕ × ℤ)) → IsFlow flow → flow_in (map term_text flow) ≡ Some (Flow flow)
 flow_again flow proper =
@@ -153,19 +162,10 @@ flow_again flow proper =
 
 siphon_found : (words : List (List ℕ)) (line : Line) → siphon_in words ≡ Some line → Says SiphonWord words line
 siphon_found words line e =
-    let places = listed place_in same_place 0 [] words in
-    let m = mapped Siphon (option_and_then some_of places) line e in
-    let c = chained some_of places m.0 m.1 in
-    let s = some_found c.0 m.0 c.2 in
-    let h = listed_found place_in same_place decimal IsPlace place_found 0 [] words c.0 c.1 in
-    let more_is : h.more ≡ m.0 = sym h.list_is ∙ s.0 in
-    let ascends : Ascends same_place 0 m.0 = subst (Ascends same_place 0) more_is h.ascends in
-    let proper : ArePlaces m.0 = record {
-      some = s.1;
-      ascending = pairs_ascending same_place 0 m.0 ascends;
-      within = each_all IsPlace m.0 (subst (AllByRecursion IsPlace) more_is h.good);
-    } in
-    subst (Says SiphonWord words) m.2 record { keyword_is = refl; words_are = h.words_are ∙ ap (map decimal) more_is; proper = proper }
+    let m = mapped Siphon (option_and_then some_of (listed place_in same_place 0 [] words)) line e in
+    let h = members_found place_in same_place decimal IsPlace place_found words m.0 m.1 in
+    let proper : ArePlaces m.0 = record { some = h.some; ascending = h.ascending; within = h.good } in
+    subst (Says SiphonWord words) m.2 record { keyword_is = refl; words_are = h.words_are; proper = proper }
 
 siphon_again : (places : List ℕ) → ArePlaces places → siphon_in (map decimal places) ≡ Some (Siphon places)
 siphon_again places proper =

@@ -79,21 +79,14 @@ due_split p (Split q ∷ lines) (suc before) due h = due_split p lines (suc (suc
 due_split p (Empty ∷ lines) (suc before) due h = due_split p lines before due h
 due_split p (Trap ∷ lines) (suc before) due h = due_split p lines before due h
 
-due_empty : (lines : List TreeLine) (before due : ℕ) → AreDue lines before (suc due) → AreDue (lines ++ Empty ∷ []) before due
-due_empty [] zero due h = absurd (omega (arith, h))
-due_empty [] (suc before) due h = omega (arith, h)
-due_empty (line ∷ lines) zero due h = h
-due_empty (Split q ∷ lines) (suc before) due h = due_empty lines (suc (suc before)) due h
-due_empty (Empty ∷ lines) (suc before) due h = due_empty lines before due h
-due_empty (Trap ∷ lines) (suc before) due h = due_empty lines before due h
-
-due_trap : (lines : List TreeLine) (before due : ℕ) → AreDue lines before (suc due) → AreDue (lines ++ Trap ∷ []) before due
-due_trap [] zero due h = absurd (omega (arith, h))
-due_trap [] (suc before) due h = omega (arith, h)
-due_trap (line ∷ lines) zero due h = h
-due_trap (Split q ∷ lines) (suc before) due h = due_trap lines (suc (suc before)) due h
-due_trap (Empty ∷ lines) (suc before) due h = due_trap lines before due h
-due_trap (Trap ∷ lines) (suc before) due h = due_trap lines before due h
+-- a leaf is one tree
+due_leaf : (leaf : TreeLine) → ((before due : ℕ) → before ≡ due → AreDue (leaf ∷ []) (suc before) due) → (lines : List TreeLine) (before due : ℕ) → AreDue lines before (suc due) → AreDue (lines ++ leaf ∷ []) before due
+due_leaf leaf one [] zero due h = absurd (omega (arith, h))
+due_leaf leaf one [] (suc before) due h = one before due (omega (arith, h))
+due_leaf leaf one (line ∷ lines) zero due h = h
+due_leaf leaf one (Split q ∷ lines) (suc before) due h = due_leaf leaf one lines (suc (suc before)) due h
+due_leaf leaf one (Empty ∷ lines) (suc before) due h = due_leaf leaf one lines before due h
+due_leaf leaf one (Trap ∷ lines) (suc before) due h = due_leaf leaf one lines before due h
 
 -- claims one by one, and the four lists of their parts
 pub are_claims : (claims : List Claim) → AllByRecursion IsClaim claims → Ascends claim_place 0 claims → AreClaims claims
@@ -142,11 +135,11 @@ tree_stands tree (suc due) (Split p) values later h proper e =
 tree_stands tree (suc due) Empty values later h proper e =
     let same : InTree (tree ++ Empty ∷ []) due ≡ later = cc in
     let lines_are = ap (λ (vs : List Line). vs ++ Tree Empty ∷ []) h.0 ∙ more_line Tree (OpensCommoner ∷ []) tree Empty in
-    subst (λ (q : Progress). Stands q (values ++ Tree Empty ∷ [])) same (lines_are, each_append IsTreeLine tree (Empty ∷ []) h.1 (tt, tt), due_empty tree 1 due h.2)
+    subst (λ (q : Progress). Stands q (values ++ Tree Empty ∷ [])) same (lines_are, each_append IsTreeLine tree (Empty ∷ []) h.1 (tt, tt), due_leaf Empty (λ before due one. one) tree 1 due h.2)
 tree_stands tree (suc due) Trap values later h proper e =
     let same : InTree (tree ++ Trap ∷ []) due ≡ later = cc in
     let lines_are = ap (λ (vs : List Line). vs ++ Tree Trap ∷ []) h.0 ∙ more_line Tree (OpensCommoner ∷ []) tree Trap in
-    subst (λ (q : Progress). Stands q (values ++ Tree Trap ∷ [])) same (lines_are, each_append IsTreeLine tree (Trap ∷ []) h.1 (tt, tt), due_trap tree 1 due h.2)
+    subst (λ (q : Progress). Stands q (values ++ Tree Trap ∷ [])) same (lines_are, each_append IsTreeLine tree (Trap ∷ []) h.1 (tt, tt), due_leaf Trap (λ before due one. one) tree 1 due h.2)
 
 tree_end_stands : (tree : List TreeLine) (due : ℕ) (values : List Line) (later : Progress) → Stands (InTree tree due) values → tree_ended tree due ≡ Some later → Stands later (values ++ Ends ∷ [])
 tree_end_stands tree zero values later h e =
