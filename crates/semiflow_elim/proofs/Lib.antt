@@ -28,6 +28,8 @@ pub mod Counting
 pub mod Carrying
 pub mod CountedSigns
 pub mod Uncounting
+pub mod Numbering
+pub mod Passing
 pub mod Merging
 pub mod Jointly
 pub mod WalkedGcds

@@ -13,3 +13,4 @@ pub mod Choices
 pub mod Carried
 pub mod Counts
 pub mod Merged
+pub mod Numbers

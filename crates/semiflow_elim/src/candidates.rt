@@ -8,6 +8,7 @@ ghost use Rattle.semiflow_elim.specs.Candidates.{IsNarrowCombination, IsWideComb
 ghost use Rattle.semiflow_elim.specs.Candidates.{pair_offers, row_offers, all_offers};
 ghost use Rattle.semiflow_elim.specs.Merged.{AreExact, IsCombinedBy};
 ghost use Rattle.semiflow_elim.specs.Elimination.{IsWidePair, row_of};
+ghost use Rattle.semiflow_elim.specs.Numbers.{AreNumbers, gains_at, loses_at};
 
 use crate::adjacent::are_adjacent;
 use crate::carried_rows::CarriedRows;
@@ -22,6 +23,10 @@ use std::alloc::Global;
 pub(crate) fn join_all(alloc: Global, step: &Step<'_>) -> Result<CarriedRows, RowFault>
     requires step { let given = step.now in
         IsStep (matrix_of given.matrix.now) given.column given.rows.now given.sums.now }
+    requires positive { let given = step.now in
+        AreNumbers (gains_at given.sums.now) (length given.rows.now) given.positive.now }
+    requires negative { let given = step.now in
+        AreNumbers (loses_at given.sums.now) (length given.rows.now) given.negative.now }
     requires after { length step.now.after.now ≡ (matrix_of step.now.matrix.now).columns }
     requires exact { let given = step.now in
         AreExact (matrix_of given.matrix.now) (in_set given.after.now) given.rows.now given.carried.now }
@@ -36,13 +41,13 @@ pub(crate) fn join_all(alloc: Global, step: &Step<'_>) -> Result<CarriedRows, Ro
         IsWidePair (matrix_of given.matrix.now) given.column (row_of given.rows.now i) (row_of given.rows.now k)) }
 {
     let mut joined = CarriedRows::new(alloc);
-    for i in 0..step.rows.len() {
-        join_pairs(alloc, step, &mut joined, i)?;
+    for p in 0..step.positive.len() {
+        join_pairs(alloc, step, &mut joined, step.positive[p])?;
     }
     Ok(joined)
 }
 
-/// Appends the combinations of row `i`, which is in adjacent pairs only where it is positive.
+/// Appends the combinations of row `i`, a positive one.
 fn join_pairs(
     alloc: Global,
     step: &Step<'_>,
@@ -51,6 +56,8 @@ fn join_pairs(
 ) -> Result<(), RowFault>
     requires step { let given = step.now in
         IsStep (matrix_of given.matrix.now) given.column given.rows.now given.sums.now }
+    requires negative { let given = step.now in
+        AreNumbers (loses_at given.sums.now) (length given.rows.now) given.negative.now }
     requires after { length step.now.after.now ≡ (matrix_of step.now.matrix.now).columns }
     requires exact { let given = step.now in
         AreExact (matrix_of given.matrix.now) (in_set given.after.now) given.rows.now given.carried.now }
@@ -69,11 +76,8 @@ fn join_pairs(
         (k : ℕ) × (k < length given.rows.now) ×
         IsWidePair (matrix_of given.matrix.now) given.column (row_of given.rows.now i) (row_of given.rows.now k)) }
 {
-    if step.sums[i].gain <= step.sums[i].loss {
-        return Ok(());
-    }
-    for k in 0..step.rows.len() {
-        join_pair(alloc, step, joined, i, k)?;
+    for q in 0..step.negative.len() {
+        join_pair(alloc, step, joined, i, step.negative[q])?;
     }
     Ok(())
 }

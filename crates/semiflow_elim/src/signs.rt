@@ -1,5 +1,6 @@
-ghost use Rattle.std.specs.Prelude.{◌≡◌, ℕ, ◌<◌, ◌≤◌, IfOk, length, slice_index};
+ghost use Rattle.std.specs.Prelude.{◌≡◌, ℕ, ◌+◌, ◌≤◌, Bool, IfOk, OnOk, length, slice_index};
 ghost use Rattle.semiflow_elim.specs.Candidates.{AreRead, IsRead};
+ghost use Rattle.semiflow_elim.specs.Numbers.{AreNumbers, gains_at, loses_at};
 
 use crate::carried::{ColumnSums, WIDE, find_sums};
 use crate::carried_rows::CarriedRows;
@@ -15,17 +16,28 @@ pub(crate) struct RowSums {
     pub largest: u128,
 }
 
-/// The two sums of each row at a column, from what the rows carry. Of the rows that are in few pairs the largest
-/// entry isn't looked for.
-pub(crate) fn row_sums(
+/// The two sums of each row at a column, and the rows where they differ, in ascending order.
+pub(crate) struct Signs {
+    pub sums: Vec<RowSums>,
+    pub positive: Vec<usize>,
+    pub negative: Vec<usize>,
+}
+
+/// The signs of the rows at a column, from what the rows carry. Of the rows that are in few pairs the largest entry
+/// isn't looked for.
+pub(crate) fn row_signs(
     alloc: Global,
     column: usize,
     rows: &CarriedRows,
     many: bool,
-) -> Result<Vec<RowSums>, NoMemory>
+) -> Result<Signs, NoMemory>
     requires { length rows.now.sums.items ≡ length rows.now.vectors.items }
-    ensures { IfOk result (λ sums.
-        AreRead column rows.now.vectors.items rows.now.sums.items sums.items (length rows.now.vectors.items)) }
+    ensures sums { IfOk result (λ signs.
+        AreRead column rows.now.vectors.items rows.now.sums.items signs.sums.items (length rows.now.vectors.items)) }
+    ensures positive { IfOk result (λ signs.
+        AreNumbers (gains_at signs.sums.items) (length rows.now.vectors.items) signs.positive.items) }
+    ensures negative { IfOk result (λ signs.
+        AreNumbers (loses_at signs.sums.items) (length rows.now.vectors.items) signs.negative.items) }
 {
     let none = RowSums {
         gain: 0,
@@ -33,12 +45,30 @@ pub(crate) fn row_sums(
         largest: 0,
     };
     let mut sums = vec![in alloc; none; rows.vectors.len()]?;
+    let (mut positive, mut negative) = (Vec::new(alloc), Vec::new(alloc));
     for i in 0..rows.vectors.len() {
         if let Some(own) = find_sums(rows.sums[i].as_slice(), column) {
+            push_where(&mut positive, own.loss < own.gain, i)?;
+            push_where(&mut negative, own.gain < own.loss, i)?;
             sums[i] = signed(own, &rows.vectors[i], many);
         }
     }
-    Ok(sums)
+    Ok(Signs {
+        sums,
+        positive,
+        negative,
+    })
+}
+
+/// Appends a number where a test holds at it.
+fn push_where(numbers: &mut Vec<usize>, holds: bool, number: usize) -> Result<(), NoMemory>
+    ensures { OnOk result ((test : ℕ → Bool) → test number ≡ holds →
+        AreNumbers test number numbers.old.items → AreNumbers test (number + 1) numbers.new.items) }
+{
+    if holds {
+        numbers.push(number)?;
+    }
+    Ok(())
 }
 
 /// The sums of a row with a number that no entry exceeds where they differ.

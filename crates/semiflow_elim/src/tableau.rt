@@ -18,7 +18,7 @@ use crate::counts::{ColumnCounts, count_rows, count_signs};
 use crate::fault::ElimFault;
 use crate::kept::keep_zeros;
 use crate::row_arithmetic::RowFault;
-use crate::signs::{RowSums, row_sums};
+use crate::signs::{RowSums, Signs, row_signs};
 use crate::step::Step;
 use incidence::Incidence;
 use net_values::{List, MAX_ENTRIES, NoMemory, PlaceSet, Rows, Vector};
@@ -212,9 +212,14 @@ fn added_rows(
         return Err(ElimFault::RowBudget(column, choice.count));
     }
     let many = counts[column].positive > 1 || counts[column].negative > 1;
-    let Ok(sums) = row_sums(alloc, column, rows, many) else {
+    let Ok(signs) = row_signs(alloc, column, rows, many) else {
         return Err(ElimFault::NoMemory);
     };
+    let Signs {
+        sums,
+        positive,
+        negative,
+    } = signs;
     let Ok(mut after) = taken.copy(alloc) else {
         return Err(ElimFault::NoMemory);
     };
@@ -226,6 +231,8 @@ fn added_rows(
         rows: rows.vectors.as_slice(),
         carried: rows.sums.as_slice(),
         sums: sums.as_slice(),
+        positive: positive.as_slice(),
+        negative: negative.as_slice(),
     };
     match join_all(alloc, &step) {
         Ok(joined) => Ok(Added {

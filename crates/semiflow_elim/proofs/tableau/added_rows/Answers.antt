@@ -8,6 +8,7 @@ use Rattle.semiflow_elim.specs.Candidates.{IsStep, AreSums, AreRead, all_offers}
 use Rattle.semiflow_elim.specs.Carried.{CarryTheirs}
 use Rattle.semiflow_elim.specs.Elimination.{AreNarrowOutside, IsChosen}
 use Rattle.semiflow_elim.specs.Merged.{AreExact}
+use Rattle.semiflow_elim.specs.Numbers.{AreNumbers, gains_at, loses_at}
 use Rattle.semiflow_elim.specs.declared.carried.ColumnSums.{ColumnSums}
 use Rattle.semiflow_elim.specs.declared.signs.RowSums.{RowSums}
 use Rattle.semiflow_elim.proofs.Jointly.{carried_exact}
@@ -41,7 +42,7 @@ returns-then-choice-from-clause-fails c =
 
 pub join_all-requires-clause-step : goal.join_all-requires-clause-step
 join_all-requires-clause-step c =
-    step_of (matrix_of c.args.matrix.now) c.args.taken.now c.in_ok-choice.choice.column c.args.rows.now.vectors.items c.as_slice.result.now c.args.rows.now.sums.items c.in-Ok.sums.items c.as_slice-3.result.now c.as_slice.ensures.value c.as_slice-3.ensures.value c.requires.basis c.requires.carried c.in_ok-choice.ensures.narrow c.in_ok-choice.ensures.chosen c.in-Ok.ensures
+    step_of (matrix_of c.args.matrix.now) c.args.taken.now c.in_ok-choice.choice.column c.args.rows.now.vectors.items c.as_slice.result.now c.args.rows.now.sums.items c.in-Ok.signs.sums.items c.as_slice-3.result.now c.as_slice.ensures.value c.as_slice-3.ensures.value c.requires.basis c.requires.carried c.in_ok-choice.ensures.narrow c.in_ok-choice.ensures.chosen c.in-Ok.ensures.sums
 
 pub join_all-requires-clause-exact : goal.join_all-requires-clause-exact
 join_all-requires-clause-exact c =
@@ -62,9 +63,9 @@ returns-in-Ok-join_all-clause-added c =
     let joined = c.in-Ok-join_all.joined.vectors.items in
     let slice = c.as_slice.ensures.value in
     record {
-      sums_are = own_sums m (in_set c.args.taken.now) column rows c.args.rows.now.sums.items c.in-Ok.sums.items c.requires.carried c.in_ok-choice.ensures.narrow c.in_ok-choice.ensures.chosen c.in-Ok.ensures;
+      sums_are = own_sums m (in_set c.args.taken.now) column rows c.args.rows.now.sums.items c.in-Ok.signs.sums.items c.requires.carried c.in_ok-choice.ensures.narrow c.in_ok-choice.ensures.chosen c.in-Ok.ensures.sums;
       joined_are = subst (λ (l : List (List ℕ)). AreJoined m column l joined (length l) 0) slice c.in-Ok-join_all.ensures.joined;
-      count = all_read rows c.as_slice.result.now c.in-Ok.sums.items c.as_slice-3.result.now joined slice c.as_slice-3.ensures.value c.in-Ok-join_all.ensures.count;
+      count = all_read rows c.as_slice.result.now c.in-Ok.signs.sums.items c.as_slice-3.result.now joined slice c.as_slice-3.ensures.value c.in-Ok-join_all.ensures.count;
     }
 
 pub returns-in-Ok-join_all-clause-budget : goal.returns-in-Ok-join_all-clause-budget
@@ -72,8 +73,8 @@ returns-in-Ok-join_all-clause-budget c =
     let m = matrix_of c.args.matrix.now in
     let count = c.in_ok-choice.ensures.count in
     let rows = c.args.rows.now.vectors.items in
-    let own = own_sums m (in_set c.args.taken.now) c.in_ok-choice.choice.column rows c.args.rows.now.sums.items c.in-Ok.sums.items c.requires.carried c.in_ok-choice.ensures.narrow c.in_ok-choice.ensures.chosen c.in-Ok.ensures in
-    let total = total_is m c.in_ok-choice.choice.column rows c.in-Ok.sums.items own in
+    let own = own_sums m (in_set c.args.taken.now) c.in_ok-choice.choice.column rows c.args.rows.now.sums.items c.in-Ok.signs.sums.items c.requires.carried c.in_ok-choice.ensures.narrow c.in_ok-choice.ensures.chosen c.in-Ok.ensures.sums in
+    let total = total_is m c.in_ok-choice.choice.column rows c.in-Ok.signs.sums.items own in
     omega arith
 
 pub returns-in-Ok-join_all-clause-passes : goal.returns-in-Ok-join_all-clause-passes
@@ -89,3 +90,18 @@ returns-in-Ok-join_all-clause-passes c =
       budget_met = omega arith;
       pairs = λ i k first second pair. joined.narrow i k (inl first) second pair;
     }
+
+-- the numbers of a sign, as they are lent
+numbers_lent : (sign : List RowSums → ℕ → Bool) (sums read : List RowSums) (rows slice : List (List ℕ)) (numbers lent : List ℕ) → read ≡ sums → slice ≡ rows → lent ≡ numbers → AreNumbers (sign sums) (length rows) numbers → AreNumbers (sign read) (length slice) lent
+numbers_lent sign sums read rows slice numbers lent read_is slice_is lent_is h =
+    subst (AreNumbers (sign read) (length slice)) (sym lent_is)
+    (subst (λ (l : List (List ℕ)). AreNumbers (sign read) (length l) numbers) (sym slice_is)
+    (subst (λ (s : List RowSums). AreNumbers (sign s) (length rows) numbers) (sym read_is) h))
+
+pub join_all-requires-clause-positive : goal.join_all-requires-clause-positive
+join_all-requires-clause-positive c =
+    numbers_lent gains_at c.in-Ok.signs.sums.items c.as_slice-3.result.now c.args.rows.now.vectors.items c.as_slice.result.now c.in-Ok.signs.positive.items c.as_slice-4.result.now c.as_slice-3.ensures.value c.as_slice.ensures.value c.as_slice-4.ensures.value c.in-Ok.ensures.positive
+
+pub join_all-requires-clause-negative : goal.join_all-requires-clause-negative
+join_all-requires-clause-negative c =
+    numbers_lent loses_at c.in-Ok.signs.sums.items c.as_slice-3.result.now c.args.rows.now.vectors.items c.as_slice.result.now c.in-Ok.signs.negative.items c.as_slice-5.result.now c.as_slice-3.ensures.value c.as_slice.ensures.value c.as_slice-5.ensures.value c.in-Ok.ensures.negative
