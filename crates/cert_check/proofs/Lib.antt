@@ -11,3 +11,4 @@ pub mod TreeSteps
 pub mod Vectors
 pub mod WalkAnswers
 pub mod WalkLaws
+pub mod TrapRecords

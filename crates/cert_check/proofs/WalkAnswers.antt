@@ -1,5 +1,5 @@
 -- What the tests of a walk's sets say of its class.
-use Rattle.std.proofs.Common.{◌≡◌, refl, sym, ◌∙◌, subst, ℕ, ◌<◌, ◌↔◌, ◌&&◌, not, Bool, true, false, IsTrue, inl, inr, arith}
+use Rattle.std.proofs.Common.{◌≡◌, refl, sym, ap, ◌∙◌, subst, ℕ, ◌<◌, ◌↔◌, ◌&&◌, not, Bool, true, false, IsTrue, inl, inr, arith}
 use Rattle.std.proofs.lemmas.Bool.{cases_lt, cases_Bool, both_ways, false≢true, and_from, and_parts, not-true, not_from_false}
 use Rattle.std.proofs.lemmas.List.{get_or_past}
 use Rattle.std.specs.Prelude.{MatchBool}
@@ -7,12 +7,12 @@ use Rattle.net_values.specs.Net.{Net}
 use Rattle.net_values.specs.PlaceSets.{has, IsEmpty, IsSubset}
 use Rattle.closed_sets.specs.ClosedSets.{any_below, IsGreatestSiphon}
 use Rattle.closed_sets.specs.Commoner.{HasMarkedTrap}
-use Rattle.closed_sets.proofs.Below.{any_at, any_from, none_from}
+use Rattle.closed_sets.proofs.Below.{any_at, any_from, none_from, pair_from}
 use Rattle.closed_sets.proofs.SmallerSiphons.{nonempty_from}
 use Rattle.certificates.specs.declared.certificate.TreeLine.TheVariants.{Split, Empty, Trap}
-use Rattle.certificates.specs.Conditions.{TreeLineHolds}
+use Rattle.certificates.specs.Conditions.{SiphonClass, TreeLineHolds, all_siphons}
 use Rattle.cert_check.specs.declared.walk.Walk.{Walk}
-use Rattle.cert_check.specs.Walks.{IsAt, IsKnown, allowed_in, class_now}
+use Rattle.cert_check.specs.Walks.{IsAt, IsKnown, allowed_in, class_now, class_of}
 use Rattle.cert_check.proofs.EmptyClasses.{none_there, place_lacking, one_there}
 use Rattle.cert_check.proofs.WalkLaws.{unused_outside, outside_unused}
 
@@ -75,3 +75,9 @@ module _ (net : Net) (walk : Walk) (at : IsAt net walk) where
     within = λ q below member. at.way.contained q below ∙ some.within q below member;
     marked = some.marked;
   }
+
+  -- above any split no place is contained
+  pub no_trap_above : walk.depth ≡ 0 → TreeLineHolds net (class_now walk) Trap → ⊥
+  no_trap_above none some =
+      let there = pair_from net.places some.trap net.initial some.marked in
+      both_ways (all_siphons.contains there.0) refl (subst (λ (class : SiphonClass). IsTrue (class.contains there.0)) (ap (class_of walk.levels.items) none) (some.within there.0 there.1 there.2))

@@ -4,6 +4,7 @@
 
 mod bounds;
 mod flows;
+mod known_traps;
 mod laws;
 mod line_checks;
 mod marked_traps;

@@ -35,6 +35,8 @@ pub fn check(
     match certificate {
         Certificate::Bounds(lines) => check_bounds(net, lines, &mut scratch.coefficients),
         Certificate::BadSiphon(places) => check_bad_siphon(net, places, &mut scratch.walk),
-        Certificate::Commoner(tree) => check_tree(net, tree, &mut scratch.walk),
+        Certificate::Commoner(tree) => {
+            check_tree(net, tree, &mut scratch.walk, &mut scratch.traps)
+        }
     }
 }

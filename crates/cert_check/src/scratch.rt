@@ -1,6 +1,7 @@
 ghost use Rattle.std.specs.Prelude.{◌≡◌, ◌≤◌, IfOk};
 ghost use Rattle.net_values.specs.declared.limits.TheConstants.{MAX_PLACES};
 
+use crate::known_traps::KnownTraps;
 use crate::walk::Walk;
 use net_values::{NoMemory, Vector};
 use std::alloc::Global;
@@ -11,17 +12,19 @@ use std::marker::Model;
 pub struct Scratch {
     pub(crate) coefficients: Vector,
     pub(crate) walk: Walk,
+    pub(crate) traps: KnownTraps,
 }
 
 impl Model for Scratch {
     ghost use Rattle.std.specs.Prelude.{◌≡◌, ℕ, length};
+    ghost use Rattle.cert_check.specs.KnownTraps.{HasRoomFor};
     ghost use Rattle.cert_check.specs.Walks.{HasSizes};
 
     ghost Value = { ℕ };
 
     ghost view = { λ s. length s.coefficients };
 
-    ghost invariant = { λ s. HasSizes (length s.coefficients) s.walk };
+    ghost invariant = { λ s. HasSizes (length s.coefficients) s.walk × HasRoomFor (length s.coefficients) s.traps };
 }
 
 impl Scratch {
@@ -33,6 +36,7 @@ impl Scratch {
         Ok(Scratch {
             coefficients: Vector::zeros(alloc, places)?,
             walk: Walk::new(alloc, places)?,
+            traps: KnownTraps::new(alloc, places)?,
         })
     }
 }

@@ -63,7 +63,7 @@ impl Walk {
 }
 
 /// As many empty sets as there are places.
-fn empty_sets(alloc: Global, places: usize) -> Result<Vec<PlaceSet>, NoMemory>
+pub(crate) fn empty_sets(alloc: Global, places: usize) -> Result<Vec<PlaceSet>, NoMemory>
     requires { places ≤ MAX_PLACES }
     ensures { IfOk result (λ sets. sets.items ≡ replicate places (replicate places false)) }
 {

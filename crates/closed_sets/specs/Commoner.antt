@@ -21,6 +21,11 @@ pub record HasMarkedTrap (net : Net) (S : ℕ → Bool) : Type 0 where
   pub within : IsWithin net trap S
   pub marked : IsMarked net net.initial trap
 
+-- the set is a trap that is marked at the initial marking
+pub record IsMarkedTrap (net : Net) (S : ℕ → Bool) : Type 0 where
+  pub closed : IsTrap net S
+  pub marked : IsMarked net net.initial S
+
 -- every nonempty siphon contains a trap that is marked at the initial marking
 abbrev pub MeetsCommoner : Net → Type 0
 MeetsCommoner net = (S : ℕ → Bool) → IsSiphon net S → IsNonempty net S → HasMarkedTrap net S

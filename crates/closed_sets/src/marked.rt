@@ -1,7 +1,7 @@
 ghost use Rattle.std.specs.Prelude.{◌≡◌, [], ◌<◌, ◌↔◌, IsTrue, length};
 ghost use Rattle.net_values.specs.FlatNets.{net_of};
 ghost use Rattle.net_values.specs.PlaceSets.{has};
-ghost use Rattle.closed_sets.specs.Commoner.{HasMarkedTrap, IsInitiallyEmpty, IsMarked};
+ghost use Rattle.closed_sets.specs.Commoner.{HasMarkedTrap, IsInitiallyEmpty, IsMarked, IsMarkedTrap};
 ghost use Rattle.closed_sets.specs.Falling.{IsFalling};
 ghost use Rattle.closed_sets.specs.Kinds.{seen_as};
 ghost use Rattle.closed_sets.specs.Opens.{AreLeaving};
@@ -35,7 +35,7 @@ pub fn has_marked_trap(
 }
 
 /// The same, where the transitions are known that have an input place in the set and no output place, and the places
-/// without a token. Only what falls from these transitions on is looked at.
+/// without a token. Only what falls from these transitions on is looked at. The scratch set then holds the marked trap.
 pub fn has_marked_trap_from(
     net: &FlatNet,
     set: &PlaceSet,
@@ -50,6 +50,7 @@ pub fn has_marked_trap_from(
     requires empty { IsInitiallyEmpty (net_of net.now) empty.now }
     requires scratch { length scratch.old ≡ (net_of net.now).places }
     ensures exact { IsTrue result ↔ HasMarkedTrap (net_of net.now) (has set.now) }
+    ensures trap { IsTrue result → IsMarkedTrap (net_of net.now) (has scratch.new) }
     ensures size { length scratch.new ≡ length scratch.old }
 {
     scratch.copy_from(set);

@@ -10,8 +10,8 @@ use Rattle.cert_check.proofs.Lines.{tree_rejected}
 use Rattle.cert_check.proofs.TreeSteps.{at_line, left_after, line_as, line_at, held_more}
 use Rattle.cert_check.proofs.tree.check_tree.Goals as goal
 
-pub step-requires : goal.step-requires
-step-requires c =
+pub step-requires-clause-at : goal.step-requires-clause-at
+step-requires-clause-at c =
     (at_line (net_of c.args.net.now) c.loop-k.walk c.as_slice-lines.result.now c.loop-k.k (subst IsTree (sym c.as_slice-lines.ensures) c.requires.tree) c.loop-k-test.true c.loop-k.invariant.left).at
 
 pub returns-then-not-step-clause-rejected : goal.returns-then-not-step-clause-rejected
@@ -30,6 +30,8 @@ loop-k-preserved c =
     let more : c.loop-k.k + 1 ≡ suc c.loop-k.k = omega arith in
     record {
       left = left_after net c.loop-k.walk c.step.new.walk c.as_slice-lines.result.now c.loop-k.k (c.loop-k.k + 1) (get_or c.as_slice-lines.result.now c.loop-k.k (Split 0)) more read here c.if-not-step.ensures.exact;
+      room = c.step.ensures.room;
+      traps = c.step.ensures.traps;
       held = held_more net c.as_slice-lines.result.now c.loop-k.k (c.loop-k.k + 1) more c.loop-k.invariant.held
           (line_as net c.loop-k.walk c.as_slice-lines.result.now c.loop-k.k (get_or c.as_slice-lines.result.now c.loop-k.k (Split 0)) read here (c.if-not-step.ensures.holds refl));
     }
