@@ -6,7 +6,7 @@ use net_class::{Verdict, commoner};
 use net_values::{FlatNet, NoMemory};
 use semiflow_elim::minimal_semiflows;
 use siphon_branch::{SetFault, minimal_siphons};
-use small_nets::{Arc, CYCLE, SCALE, net_with};
+use small_nets::{Arc, CYCLE, LEAK, SCALE, net_with};
 use std::alloc::Global;
 use std::test::Fail;
 
@@ -21,17 +21,6 @@ const WIDE: &[Arc] = &[
     (2, 1, 1 << 63),
     (2, 2, -1),
     (3, 2, 1 << 63),
-];
-
-/// A siphon of two places that isn't a trap, since a transition takes from the first and gives nothing. The
-/// second is a trap.
-const LEAK: &[Arc] = &[
-    (0, 0, -1),
-    (1, 0, 1),
-    (1, 1, -1),
-    (0, 1, 1),
-    (1, 1, 1),
-    (0, 2, -1),
 ];
 
 /// A place with its coefficient, and a place with its bound and the number of its flow.

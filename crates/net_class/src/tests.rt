@@ -1,7 +1,7 @@
 use super::*;
 use net_values::NoMemory;
 use siphon_branch::minimal_siphons;
-use small_nets::{Arc, CYCLE, MUTEX, net_with, place_set};
+use small_nets::{Arc, CYCLE, LEAK, MUTEX, net_with, place_set};
 use std::test::Fail;
 
 /// Two places in a line.
@@ -15,17 +15,6 @@ const FORK: &[Arc] = &[
     (1, 1, -1),
     (2, 1, -1),
     (0, 1, 1),
-];
-
-/// A siphon of two places that isn't a trap, since a transition takes from the first and gives nothing. The
-/// second is a trap.
-const LEAK: &[Arc] = &[
-    (0, 0, -1),
-    (1, 0, 1),
-    (1, 1, -1),
-    (0, 1, 1),
-    (1, 1, 1),
-    (0, 2, -1),
 ];
 
 /// A net by its numbers of places and transitions and its arcs, and whether it is ordinary, a state machine,

@@ -5,6 +5,6 @@ mod named;
 mod nets;
 mod place_sets;
 
-pub use named::{CHAIN, CYCLE, MUTEX, SCALE};
+pub use named::{CHAIN, CYCLE, LEAK, MUTEX, SCALE};
 pub use nets::{Arc, net_with};
 pub use place_sets::place_set;
