@@ -1,8 +1,12 @@
 -- What occurs at a number of a list, after a write, a push and a map.
-use Rattle.std.proofs.Common.{◌≡◌, ◌≢◌, refl, sym, ap, ◌∙◌, ℕ, zero, suc, ◌<◌, List, [], ◌∷◌, ◌++◌, Option, Some, None, length, map, set, get_or, slice_get, ◌⊎◌, inl, inr, IfNone, arith}
+use Rattle.std.proofs.Common.{◌≡◌, ◌≢◌, refl, sym, ap, ◌∙◌, subst, ℕ, zero, suc, ◌<◌, List, [], ◌∷◌, ◌++◌, Option, Some, None, length, map, set, get_or, slice_get, ◌⊎◌, inl, inr, IfNone, arith}
 
 pub some_is : {X : Type 0} {a b : X} → Some a ≡ Some b → a ≡ b
 some_is e = cc
+
+-- a member that is read of a list that is another one by name
+pub read_in : {X : Type 0} (list items : List X) (k : ℕ) (x : X) → list ≡ items → k < length list → x ≡ get_or list k x → (k < length items) × (x ≡ get_or items k x)
+read_in list items k x same under is = (subst (λ (l : List _). k < length l) same under, subst (λ (l : List _). x ≡ get_or l k x) same is)
 
 -- two readings of one place agree
 pub same_read : {X : Type 0} (xs : List X) (n : ℕ) {a b : X} → slice_get xs n ≡ Some a → slice_get xs n ≡ Some b → a ≡ b

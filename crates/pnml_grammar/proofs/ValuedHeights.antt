@@ -164,15 +164,7 @@ label_low : (context : Context) (h : ℕ) (numerals : List ℕ) → AllByRecursi
 label_low context h numerals each = record { documents = tt; nets = tt; items = λ opened more low shallow. shallow; names = tt; numbers = (first_numeral h numerals each, tt); texts = tt; numerals = tt }
 
 numerals_low : (context : Context) (h : ℕ) (numerals : List ℕ) → AllByRecursion (λ number. numeral_height context ≤ h) numerals → GivesLow context h (record nothing { numerals = numerals })
-numerals_low context h numerals each = record {
-  documents = tt;
-  nets = tt;
-  items = λ opened more low shallow. shallow;
-  names = tt;
-  numbers = tt;
-  texts = tt;
-  numerals = each;
-}
+numerals_low context h numerals each = record { documents = tt; nets = tt; items = λ opened more low shallow. shallow; names = tt; numbers = tt; texts = tt; numerals = each }
 
 text_low : (context : Context) (attributes : List Attribute) (h : ℕ) (c : Content) → GivesLow (context_of_text context) h c → GivesLow context (suc h) (gives (context_of_text context) attributes c)
 text_low contexts.Name attributes h c each = record { documents = tt; nets = tt; items = λ opened more low shallow. shallow; names = tt; numbers = tt; texts = (omega arith, tt); numerals = tt }

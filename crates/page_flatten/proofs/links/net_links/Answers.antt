@@ -1,8 +1,9 @@
-use Rattle.std.proofs.Common.{◌≡◌, sym, ap, ◌∙◌, subst, List, [], ◌∷◌, ◌++◌, length, get_or, ◌<◌, ◌≤◌}
+use Rattle.std.proofs.Common.{◌≡◌, sym, ap, ◌∙◌, subst, List, [], ◌∷◌, ◌++◌, length, ◌≤◌}
 use Rattle.std.specs.Option.{option_to_list}
 use Rattle.std.proofs.lemmas.List.{append-nil}
 use Rattle.net_values.specs.declared.document.Item.{Item}
 use Rattle.page_flatten.specs.declared.links.Link.{Link}
+use Rattle.page_flatten.proofs.Lists.{read_in}
 use Rattle.page_flatten.proofs.LinkLaws.{AreLinksUpTo, links_none, links_more, links_all, known_here}
 use Rattle.page_flatten.proofs.links.net_links.Goals as goal
 use Rattle.page_flatten.proofs.links.net_links.Goals.{in-Some+in_ok-push-2, in_default}
@@ -14,25 +15,21 @@ loop-item-init c =
 
 pub link_of-requires-clause-known : goal.link_of-requires-clause-known
 link_of-requires-clause-known c =
-    let item = c.item-item.result in
     let k = c.loop-item.item-index in
-    let within = subst (λ (l : List Item). k < length l) c.as_slice-item-items.ensures c.loop-item-test.true in
-    let is = subst (λ (l : List Item). item ≡ get_or l k item) c.as_slice-item-items.ensures c.item-item.is in
-    known_here c.args.numbers.now c.args.net.now k item _ _ _ within is c.loop-item.invariant
+    let read = read_in c.as_slice-item-items.result.now c.args.net.now.items k c.item-item.result c.as_slice-item-items.ensures c.loop-item-test.true c.item-item.is in
+    known_here c.args.numbers.now c.args.net.now k c.item-item.result _ _ _ read.0 read.1 c.loop-item.invariant
 
 pub loop-item-preserved : goal.loop-item-preserved
 loop-item-preserved c =
-    let item = c.item-item.result in
     let k = c.loop-item.item-index in
-    let within = subst (λ (l : List Item). k < length l) c.as_slice-item-items.ensures c.loop-item-test.true in
-    let is = subst (λ (l : List Item). item ≡ get_or l k item) c.as_slice-item-items.ensures c.item-item.is in
+    let read = read_in c.as_slice-item-items.result.now c.args.net.now.items k c.item-item.result c.as_slice-item-items.ensures c.loop-item-test.true c.item-item.is in
     let old = c.loop-item.links.items in
     let grown : c.match-link_of.links.items ≡ old ++ option_to_list c.link_of.result =
     elim c.match-link_of.branch [
       | in-Some+in_ok-push-2 w ↦ ap (λ v. v.items) w.links-is ∙ w.in_ok-push-2.ensures.items ∙ ap (λ o. old ++ option_to_list o) (sym w.in-Some.is)
       | in_default w ↦ ap (λ v. v.items) w.links-is ∙ sym (append-nil old) ∙ ap (λ o. old ++ option_to_list o) (sym w.in_default.is)
     ] in
-    links_more c.args.numbers.now c.args.net.now k item _ _ _ _ _ _ c.link_of.result within is c.loop-item.invariant c.link_of.ensures grown c.next_after-next.ensures.place c.next_after-next.ensures.transition
+    links_more c.args.numbers.now c.args.net.now k c.item-item.result _ _ _ _ _ _ c.link_of.result read.0 read.1 c.loop-item.invariant c.link_of.ensures grown c.next_after-next.ensures.place c.next_after-next.ensures.transition
 
 pub returns : goal.returns
 returns c =
