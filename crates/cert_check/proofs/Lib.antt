@@ -11,4 +11,3 @@ pub mod TreeSteps
 pub mod Vectors
 pub mod WalkAnswers
 pub mod WalkLaws
-pub mod TrapRecords
