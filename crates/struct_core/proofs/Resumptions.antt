@@ -1,6 +1,6 @@
 -- What is told of a pending token: each fault by its line, and a run from its classes by its text. One status comes for each
 -- net and bytes, and it is 0 where the token is read.
-use Rattle.std.proofs.Common.{◌≡◌, ◌⊎◌, refl, sym, ap, subst, ℕ, List, inl, inr, arith}
+use Rattle.std.proofs.Common.{◌≡◌, ◌⊎◌, refl, sym, ap, subst, ℕ, ◌≤◌, List, inl, inr, arith}
 use Rattle.net_values.specs.declared.document.Document.{Document}
 use Rattle.net_values.specs.Net.{Net}
 use Rattle.net_values.specs.declared.limits.TheConstants.{MAX_PLACES}
