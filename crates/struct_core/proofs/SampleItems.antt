@@ -1,17 +1,14 @@
 -- A property of every item of the sample net, from one of its places, transitions and arcs.
-use Rattle.std.proofs.Common.{ℕ, zero, suc, ◌+◌, ◌*◌, ◌%◌, ◌<◌, List, [], ◌∷◌, ◌++◌, None, map, arith}
+use Rattle.std.proofs.Common.{ℕ, zero, suc, ◌+◌, ◌*◌, ◌%◌, ◌<◌, List, [], ◌∷◌, None, map, arith}
 use Rattle.std.specs.Prelude.{codes}
 use Rattle.std.specs.List.{flat_map, range_with_len, AllByRecursion}
 use Rattle.std.proofs.Math.Nat.{mod-lt}
 use Rattle.net_values.specs.declared.document.Item.{Item}
 use Rattle.net_values.specs.declared.document.Item.TheVariants.{Page, PageEnd}
+use Rattle.pnml_grammar.proofs.EachLaws.{each_append}
 use Rattle.struct_core.specs.Sample.{numbered, place, transition, transitions_of, arc, arcs_of, sample_items}
 
 -- ---- lists
-
-pub all_both : {X : Type 0} (P : X → Type 0) (xs ys : List X) → AllByRecursion P xs → AllByRecursion P ys → AllByRecursion P (xs ++ ys)
-all_both P [] ys one other = other
-all_both P (x ∷ xs) ys one other = (one.0, all_both P xs ys one.1 other)
 
 all_numbers : {X : Type 0} (P : X → Type 0) (f : ℕ → X) (a k : ℕ) → ((i : ℕ) → i < a + k → P (f i)) → AllByRecursion P (map f (range_with_len a k))
 all_numbers P f a zero each = tt
@@ -21,12 +18,12 @@ all_lists : {X : Type 0} (P : X → Type 0) (f : ℕ → List X) (a k : ℕ) →
     → AllByRecursion P (flat_map f (range_with_len a k))
 all_lists P f a zero each = tt
 all_lists P f a (suc k) each =
-    all_both P (f a) (flat_map f (range_with_len (a + 1) k)) (each a (omega arith)) (all_lists P f (a + 1) k (λ i below. each i (omega (arith, below))))
+    each_append P (f a) (flat_map f (range_with_len (a + 1) k)) (each a (omega arith)) (all_lists P f (a + 1) k (λ i below. each i (omega (arith, below))))
 
 pub all_over : {X Y : Type 0} (P : Y → Type 0) (g : X → List Y) (xs : List X) → AllByRecursion (λ x. AllByRecursion P (g x)) xs
     → AllByRecursion P (flat_map g xs)
 all_over P g [] each = tt
-all_over P g (x ∷ xs) each = all_both P (g x) (flat_map g xs) each.0 (all_over P g xs each.1)
+all_over P g (x ∷ xs) each = each_append P (g x) (flat_map g xs) each.0 (all_over P g xs each.1)
 
 -- ---- the sample
 
@@ -75,9 +72,9 @@ module _ (n : ℕ) (Q : Item → Type 0) (P T : List ℕ → Type 0) (nodes : No
       → ((i : ℕ) → i < n → Q (transition (codes "take") i) × Q (transition (codes "release") i)) → AllByRecursion Q (sample_items n)
   every_item page end places transitions = (
     page,
-    all_both Q _ _ (all_numbers Q (place (codes "think") 1) 0 n (λ i below. (places i (omega (arith, below))).0))
-        (all_both Q _ _ (all_numbers Q (place (codes "fork") 1) 0 n (λ i below. (places i (omega (arith, below))).1))
-        (all_both Q _ _ (all_numbers Q (place (codes "eat") 0) 0 n (λ i below. (places i (omega (arith, below))).2))
-        (all_both Q _ _ (all_lists Q transitions_of 0 n (λ i below. let both = transitions i (omega (arith, below)) in (both.0, (both.1, tt))))
-        (all_both Q _ (PageEnd ∷ []) (all_lists Q (arcs_of n) 0 n (λ i below. each_arc i (omega (arith, below)))) (end, tt))))),
+    each_append Q _ _ (all_numbers Q (place (codes "think") 1) 0 n (λ i below. (places i (omega (arith, below))).0))
+        (each_append Q _ _ (all_numbers Q (place (codes "fork") 1) 0 n (λ i below. (places i (omega (arith, below))).1))
+        (each_append Q _ _ (all_numbers Q (place (codes "eat") 0) 0 n (λ i below. (places i (omega (arith, below))).2))
+        (each_append Q _ _ (all_lists Q transitions_of 0 n (λ i below. let both = transitions i (omega (arith, below)) in (both.0, (both.1, tt))))
+        (each_append Q _ (PageEnd ∷ []) (all_lists Q (arcs_of n) 0 n (λ i below. each_arc i (omega (arith, below)))) (end, tt))))),
   )
