@@ -4,7 +4,8 @@ ghost use Rattle.pnml_grammar.specs.Contents.{nothing, one_item};
 ghost use Rattle.pnml_grammar.specs.Reasons.{has_some, is_second, has_all_nets};
 ghost use Rattle.pnml_decode.specs.Views.{given, Gains};
 
-use net_values::{Document, Item, Items, List, MAX_NETS, NetTree, Nets, NoMemory, PageNode, Text};
+use crate::item_parts::ItemParts;
+use net_values::{Document, Item, List, MAX_NETS, NetTree, Nets, NoMemory, PageNode, Text};
 use pnml_grammar::{Context, ElementKind};
 use std::alloc::Global;
 
@@ -15,7 +16,7 @@ use std::alloc::Global;
 pub(crate) struct Content {
     pub(crate) documents: List<Document>,
     pub(crate) nets: Nets,
-    pub(crate) items: Items,
+    pub(crate) items: ItemParts,
     pub(crate) names: List<Option<Text>>,
     pub(crate) numbers: List<Option<u64>>,
     pub(crate) texts: List<Text>,
@@ -31,7 +32,7 @@ impl Content {
         Content {
             documents: List::new(alloc),
             nets: Nets::new(alloc),
-            items: Items::new(alloc),
+            items: ItemParts::new(alloc),
             names: List::new(alloc),
             numbers: List::new(alloc),
             texts: List::new(alloc),
@@ -86,7 +87,7 @@ impl Content {
     }
 
     #[tactic(auto, using(crate::proofs::Giving::gave_page))]
-    pub(crate) fn give_page(&mut self, page: PageNode, items: Items) -> Result<(), NoMemory>
+    pub(crate) fn give_page(&mut self, page: PageNode, items: ItemParts) -> Result<(), NoMemory>
         ensures { OnOk result (Gains self.old self.new
             (record nothing { items = (Page page ∷ items) ++ PageEnd ∷ [] })) }
     {

@@ -11,6 +11,7 @@ mod document;
 mod elements;
 mod fault;
 mod input;
+mod item_parts;
 mod nodes;
 mod number;
 mod open;

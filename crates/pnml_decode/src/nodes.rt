@@ -33,7 +33,7 @@ pub(crate) fn net(
     }) }
 {
     let Content { names, items, .. } = content;
-    made!(NetTree of attributes, names by alloc; items: items)
+    made!(NetTree of attributes, names by alloc; items: items.into_items()?)
 }
 
 /// The start of the page of a closed element.
