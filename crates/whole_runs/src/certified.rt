@@ -7,7 +7,7 @@ use std::test::Fail;
 
 const DECLARATION: &[u8] = b"<?xml version=\"1.0\" encoding=\"UTF-8\"?>";
 
-const OF_BOUNDS: &[u8] = b"bounds\nflow 0:1 1:1\nbound 0 1 1\nbound 1 1 1\nend\n";
+pub const OF_BOUNDS: &[u8] = b"bounds\nflow 0:1 1:1\nbound 0 1 1\nbound 1 1 1\nend\n";
 
 const OF_SIPHON: &[u8] = b"bad-siphon\nsiphon 0\nend\n";
 

@@ -23,6 +23,8 @@ mod nets;
 #[cfg(test)]
 mod options;
 #[cfg(test)]
+mod pieces;
+#[cfg(test)]
 mod replays;
 #[cfg(test)]
 mod resumes;
