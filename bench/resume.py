@@ -11,6 +11,7 @@ examples/parallel-siphons.sh takes by the clock with 1, 2 and 4 processes, in pa
 import os
 import subprocess
 import sys
+import tempfile
 import time
 
 from measure import ROOT, built, load, run, written
@@ -36,17 +37,19 @@ def resumed(program, name, leaves):
 
 
 def scripted(program, name, processes):
-    """How long the script takes, and how many siphons it tells."""
-    began = time.monotonic()
-    with open(name, "rb") as source:
-        ran = subprocess.run(
+    """How long the script takes to write its list into a file, and how many siphons it tells."""
+    with open(name, "rb") as source, tempfile.TemporaryFile() as out:
+        began = time.monotonic()
+        subprocess.run(
             ["sh", SCRIPT, str(processes), str(LEAVES)],
             stdin=source,
-            stdout=subprocess.PIPE,
+            stdout=out,
             env={**os.environ, "PROGRAM": program},
             check=True,
         )
-    return time.monotonic() - began, int(ran.stdout.split()[-1])
+        seconds = time.monotonic() - began
+        out.seek(0)
+        return seconds, int(out.read().split()[-1])
 
 
 def main():

@@ -20,16 +20,15 @@ export NET="${NET:-1}"
 
 # Goes on with the classes of one file: a file for each class that is left, and one for the siphons that were found.
 one_run() {
-    made=$FOLDER/made/${1##*/}
-    cat "$FOLDER/document" "$1" | "$PROGRAM" resume --net "$NET" --sets "$LEAVES" > "$made" || exit 255
-    list=$(mktemp "$FOLDER/found/XXXXXXXX") # its name is that of no other run
-    awk -v next_file="$FOLDER/next/${list##*/}" '
+    name=${1##*/} # that of no other run, since it begins with that of the run which left the class
+    cat "$FOLDER/document" "$1" | "$PROGRAM" resume --net "$NET" --sets "$LEAVES" > "$FOLDER/made/$name" || exit 255
+    awk -v next_file="$FOLDER/next/$name" '
         NR == 1 { next }
         ended { if (ended++ > 1) print held; held = $0; next }
         $0 == "end" { ended = 1; next }
         $0 == "pending" { next }
         { file = next_file "." ++n; printf "pending\n%s\nend\n", $0 > file; close(file) }
-    ' "$made" > "$list"
+    ' "$FOLDER/made/$name" > "$FOLDER/found/$name"
 }
 
 if [ "${1:-}" = --one ]; then
@@ -51,7 +50,7 @@ all_runs() {
 
 script=$here/examples/$(basename "$0")
 processes=${1:-4}
-export LEAVES="${2:-1000}"
+export LEAVES="${2:-10000}"
 FOLDER=$(mktemp -d)
 export FOLDER
 trap 'rm -rf "$FOLDER"' EXIT
@@ -66,4 +65,5 @@ while [ -n "$(ls "$FOLDER/now")" ]; do
     mkdir "$FOLDER/made" "$FOLDER/next"
 done
 
-find "$FOLDER/found" -type f -exec cat {} + | LC_ALL=C sort | awk '{ print } END { print "siphons " NR }'
+find "$FOLDER/found" -type f -exec cat {} + > "$FOLDER/list"
+LC_ALL=C sort "$FOLDER/list" | awk '{ print } END { print "siphons " NR }'
