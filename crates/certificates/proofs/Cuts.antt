@@ -125,7 +125,7 @@ cut_found separator bytes None none =
 
 -- ---- what follows a first byte
 
-take_whole : (bytes : List ℕ) → take (length bytes) bytes ≡ bytes
+pub take_whole : (bytes : List ℕ) → take (length bytes) bytes ≡ bytes
 take_whole [] = refl
 take_whole (byte ∷ bytes) = ap (λ (xs : List ℕ). byte ∷ xs) (take_whole bytes)
 

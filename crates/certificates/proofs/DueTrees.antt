@@ -35,7 +35,7 @@ end_due : (tree : List TreeLine) (due : ℕ) (later : Progress) → tree_ended t
 end_due tree zero later e = becomes (Ended (Commoner tree)) later 1 e (omega arith)
 end_due tree (suc due) later e = absurd (cc)
 
-due_more : (progress : Progress) (line : Line) (later : Progress) → next progress line ≡ Some later → due_of later ≤ due_of progress + 1
+pub due_more : (progress : Progress) (line : Line) (later : Progress) → next progress line ≡ Some later → due_of later ≤ due_of progress + 1
 due_more Begun OpensBounds later e = becomes (InBounds no_lines 0) later 1 e (omega arith)
 due_more Begun OpensBadSiphon later e = becomes InSiphon later 1 e (omega arith)
 due_more Begun OpensCommoner later e = becomes (InTree [] 1) later 1 e (omega arith)

@@ -11,3 +11,5 @@ pub mod DueTrees
 pub mod OneReading
 pub mod Texts
 pub mod ShortNumbers
+pub mod Runs
+pub mod TreeTexts

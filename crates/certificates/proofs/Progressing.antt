@@ -18,7 +18,7 @@ use Rattle.certificates.specs.declared.progress.Progress.{Progress}
 use Rattle.certificates.specs.declared.progress.Progress.TheVariants.{Begun, InBounds, InSiphon, AfterSiphon, InTree, Ended}
 use Rattle.certificates.specs.WellFormed.{IsFlow, AreClaims, ArePlaces, IsTreeLine, AreTrees, IsWellFormed}
 use Rattle.certificates.specs.Lines.{IsClaim, IsProper}
-use Rattle.certificates.specs.Moves.{no_lines, next, with_flow, with_tree_line, tree_ended}
+use Rattle.certificates.specs.Moves.{no_lines, next, read_on, with_flow, with_tree_line, tree_ended}
 use Rattle.certificates.proofs.Lists.{le_true, le_from, all_each, each_all, each_append, Ascends, least_after, pairs_ascending, ascends_all, ascends_more, least_more}
 
 -- the lines of a certificate as values
@@ -29,11 +29,6 @@ abbrev pub values_of : Certificate → List Line
 values_of (Bounds lines) = OpensBounds ∷ (map Flow lines.flows ++ map Bound lines.claims) ++ Ends ∷ []
 values_of (BadSiphon places) = OpensBadSiphon ∷ Siphon places ∷ Ends ∷ []
 values_of (Commoner tree) = OpensCommoner ∷ map Tree tree ++ Ends ∷ []
-
--- the progress after the lines
-abbrev pub read_on : Progress → List Line → Option Progress
-read_on progress [] = Some progress
-read_on progress (line ∷ lines) = option_and_then (λ later. read_on later lines) (next progress line)
 
 pub read_append : (progress : Progress) (lines more : List Line) → read_on progress (lines ++ more) ≡ option_and_then (λ later. read_on later more) (read_on progress lines)
 read_append progress [] more = refl

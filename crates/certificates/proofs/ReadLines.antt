@@ -3,7 +3,7 @@
 use Rattle.std.proofs.Common.{◌≡◌, refl, sym, ap, ◌∙◌, subst, ℕ, ◌+◌, List, [], ◌∷◌, ◌++◌, length, map, Some, None, inl, inr, append_assoc, append-nil, arith}
 use Rattle.std.specs.List.{flat_map, AllByRecursion}
 use Rattle.std.specs.Option.{option_and_then}
-use Rattle.std.proofs.lemmas.List.{append_cancel_right, length-append, length-map, map-append}
+use Rattle.std.proofs.lemmas.List.{append_cancel_right, length-map, map-append}
 use Rattle.certificates.specs.declared.certificate.Certificate.{Certificate}
 use Rattle.certificates.specs.declared.certificate.Certificate.TheVariants.{Bounds, BadSiphon, Commoner}
 use Rattle.certificates.specs.declared.line.Line.{Line}
@@ -14,14 +14,15 @@ use Rattle.certificates.specs.WellFormed.{IsFlow, IsTreeLine, IsWellFormed}
 use Rattle.certificates.specs.Spelling.{flow_line, bound_line, tree_line, certificate_lines, certificate_text}
 use Rattle.certificates.specs.Words.{before, from_first}
 use Rattle.certificates.specs.Lines.{spelled, IsProper, word_of, line_in}
-use Rattle.certificates.specs.Moves.{next}
+use Rattle.certificates.specs.Moves.{ReadsOn, next, read_on}
 use Rattle.certificates.specs.BadLines.{Spells, IsLine, BeginsCertificate, IsBadLine}
 use Rattle.certificates.proofs.Cuts.{IsFree, first_parts, before_free}
 use Rattle.certificates.proofs.Lists.{all_each, each_all, each_append, each_map, each_mapped}
 use Rattle.certificates.proofs.LineWords.{front_of, keyword_of, words_of, spelled_is, keyword_text, text_free, joined_free}
 use Rattle.certificates.proofs.LineReading.{chained, line_found, line_again, words_texts}
 use Rattle.certificates.proofs.LineSplits.{NoFeed, bytes_of, same_lines, has_lines}
-use Rattle.certificates.proofs.Progressing.{values_of, read_on, read_append, certificate_read, completes, ended_is, each_claim}
+use Rattle.certificates.proofs.Progressing.{values_of, read_append, certificate_read, completes, ended_is, each_claim}
+use Rattle.certificates.proofs.Runs.{both, bytes_append, one_line}
 
 -- ---- lines of certificates
 
@@ -65,8 +66,8 @@ pub are_lines : (values : List Line) → AllByRecursion IsProper values → AllB
 are_lines values proper = each_mapped IsLine spelled values (each_map IsProper (λ line. IsLine (spelled line)) is_line values proper)
 
 -- a proper line is spelled as no other
-pub one_line : (one other : Line) → IsProper one → IsProper other → spelled one ≡ spelled other → one ≡ other
-one_line one other first second same =
+pub same_line : (one other : Line) → IsProper one → IsProper other → spelled one ≡ spelled other → one ≡ other
+same_line one other first second same =
     let fronts : front_of one ≡ front_of other = append_cancel_right (front_of one) (front_of other) (10 ∷ []) (sym (spelled_is one) ∙ same ∙ spelled_is other) in
     let read : Some one ≡ Some other = sym (line_again one first) ∙ ap line_in fronts ∙ line_again other second in
     cc
@@ -78,7 +79,7 @@ one_list (one ∷ ones) [] first second same = absurd (cc)
 one_list (one ∷ ones) (other ∷ others) first second same =
     let heads : spelled one ≡ spelled other = cc in
     let tails : map spelled ones ≡ map spelled others = cc in
-    λ i. one_line one other first.0 second.0 heads i ∷ one_list ones others first.1 second.1 tails i
+    λ i. same_line one other first.0 second.0 heads i ∷ one_list ones others first.1 second.1 tails i
 
 -- ---- how far the bytes were read
 
@@ -92,29 +93,23 @@ pub record ReadTo (bytes rest : List ℕ) (progress : Progress) (number : ℕ) :
 pub read_start : (bytes : List ℕ) → ReadTo bytes bytes Begun 1
 read_start bytes = record { values = []; proper = tt; read = refl; joined = refl; count = omega arith }
 
-bytes_append : (lines more : List (List ℕ)) → bytes_of (lines ++ more) ≡ bytes_of lines ++ bytes_of more
-bytes_append [] more = refl
-bytes_append (line ∷ lines) more = ap (λ (xs : List ℕ). line ++ xs) (bytes_append lines more) ∙ sym (append_assoc line (bytes_of lines) (bytes_of more))
+-- a run of lines is read further
+pub read_further : (bytes rest after : List ℕ) (progress later : Progress) (number count : ℕ) → ReadTo bytes rest progress number → ReadsOn progress rest later after count → ReadTo bytes after later (number + count)
+read_further bytes rest after progress later number count h run =
+    let so_far : ReadsOn Begun bytes progress rest (length h.values) = record { lines = h.values; proper = h.proper; read = h.read; joined = h.joined; count = refl } in
+    let whole = both Begun progress later bytes rest after (length h.values) count so_far run in
+    let before = h.count in
+    let all = whole.count in
+    record { values = whole.lines; proper = whole.proper; read = whole.read; joined = whole.joined; count = omega (arith, before, all) }
 
 pub read_more : (bytes rest line after : List ℕ) (progress later : Progress) (number : ℕ) → ReadTo bytes rest progress number →
     rest ≡ line ++ 10 ∷ after → option_and_then (next progress) (line_in line) ≡ Some later → ReadTo bytes after later (number + 1)
 read_more bytes rest line after progress later number h parts moves =
     let c = chained (next progress) (line_in line) later moves in
     let f = line_found line c.0 c.1 in
-    let spelled_so : line ++ 10 ∷ after ≡ spelled c.0 ++ after =
-    ap (λ (xs : List ℕ). xs ++ 10 ∷ after) f.0 ∙ sym (append_assoc (front_of c.0) (10 ∷ []) after) ∙ ap (λ (xs : List ℕ). xs ++ after) (sym (spelled_is c.0)) in
-    let lines : bytes_of (map spelled h.values) ++ rest ≡ bytes_of (map spelled (h.values ++ c.0 ∷ [])) ++ after =
-    ap (λ (xs : List ℕ). bytes_of (map spelled h.values) ++ xs) (parts ∙ spelled_so) ∙ sym (append_assoc (bytes_of (map spelled h.values)) (spelled c.0) after)
-    ∙ ap (λ (xs : List ℕ). xs ++ after) (ap (λ (xs : List ℕ). bytes_of (map spelled h.values) ++ xs) (sym (append-nil (spelled c.0))) ∙ sym (bytes_append (map spelled h.values) (spelled c.0 ∷ [])) ∙ sym (ap bytes_of (map-append spelled h.values (c.0 ∷ [])))) in
-    let size = length-append h.values (c.0 ∷ []) in
-    let count = h.count in
-    record {
-      values = h.values ++ c.0 ∷ [];
-      proper = each_append IsProper h.values (c.0 ∷ []) h.proper (f.1, tt);
-      read = read_append Begun h.values (c.0 ∷ []) ∙ ap (option_and_then (λ (now : Progress). read_on now (c.0 ∷ []))) h.read ∙ ap (option_and_then (λ (now : Progress). Some now)) c.2;
-      joined = h.joined ∙ lines;
-      count = omega (arith, size, count);
-    }
+    let spelled_so : rest ≡ spelled c.0 ++ after =
+    parts ∙ ap (λ (xs : List ℕ). xs ++ 10 ∷ after) f.0 ∙ sym (append_assoc (front_of c.0) (10 ∷ []) after) ∙ ap (λ (xs : List ℕ). xs ++ after) (sym (spelled_is c.0)) in
+    read_further bytes rest after progress later number 1 h (one_line progress later c.0 rest after f.1 spelled_so c.2)
 
 -- ---- what was read begins a certificate
 
@@ -146,7 +141,7 @@ begins_as (one ∷ whole) (value ∷ values) line more all proper same =
     let heads : spelled one ≡ spelled value = cc in
     let tails : map spelled whole ≡ map spelled values ++ line ∷ more = cc in
     let h = begins_as whole values line more all.1 proper.1 tails in
-    record { one = h.one; later = h.later; proper = h.proper; spells = h.spells; parts = λ i. one_line one value all.0 proper.0 heads i ∷ h.parts i }
+    record { one = h.one; later = h.later; proper = h.proper; spells = h.spells; parts = λ i. same_line one value all.0 proper.0 heads i ∷ h.parts i }
 
 not_begun : (values : List Line) (progress : Progress) (front : List ℕ) → AllByRecursion IsProper values → read_on Begun values ≡ Some progress → option_and_then (next progress) (line_in front) ≡ None →
     BeginsCertificate (map spelled values ++ (front ++ 10 ∷ []) ∷ []) → ⊥

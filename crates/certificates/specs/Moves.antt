@@ -1,5 +1,7 @@
 -- Which lines may follow the lines that were read.
-use Rattle.std.specs.Prelude.{ℕ, zero, suc, ◌+◌, ℤ, nat_le, if◌then◌else◌, List, [], ◌∷◌, ◌++◌, Option, Some, None}
+use Rattle.std.specs.Prelude.{◌≡◌, ℕ, zero, suc, ◌+◌, ℤ, nat_le, if◌then◌else◌, List, [], ◌∷◌, ◌++◌, length, map, Option, Some, None}
+use Rattle.std.specs.List.{flat_map, AllByRecursion}
+use Rattle.std.specs.Option.{option_and_then}
 use Rattle.certificates.specs.declared.certificate.BoundLines.{BoundLines}
 use Rattle.certificates.specs.declared.certificate.Certificate.TheVariants.{Bounds, BadSiphon, Commoner}
 use Rattle.certificates.specs.declared.certificate.Claim.{Claim}
@@ -9,6 +11,7 @@ use Rattle.certificates.specs.declared.line.Line.{Line}
 use Rattle.certificates.specs.declared.line.Line.TheVariants.{OpensBounds, OpensBadSiphon, OpensCommoner, Flow, Bound, Siphon, Tree, Ends}
 use Rattle.certificates.specs.declared.progress.Progress.{Progress}
 use Rattle.certificates.specs.declared.progress.Progress.TheVariants.{Begun, InBounds, InSiphon, AfterSiphon, InTree, Ended}
+use Rattle.certificates.specs.Lines.{spelled, IsProper}
 
 abbrev pub no_lines : BoundLines
 no_lines = record { flows = []; claims = [] }
@@ -103,3 +106,16 @@ due_of InSiphon = 0
 due_of (AfterSiphon places) = 0
 due_of (InTree tree due) = due
 due_of (Ended certificate) = 0
+
+-- the progress after the lines
+abbrev pub read_on : Progress → List Line → Option Progress
+read_on progress [] = Some progress
+read_on progress (line ∷ lines) = option_and_then (λ later. read_on later lines) (next progress line)
+
+-- so many lines were read from bytes one after the other, and the rest is left
+pub record ReadsOn (progress : Progress) (bytes : List ℕ) (later : Progress) (rest : List ℕ) (many : ℕ) : Type 0 where
+  pub lines : List Line
+  pub proper : AllByRecursion IsProper lines
+  pub read : read_on progress lines ≡ Some later
+  pub joined : bytes ≡ flat_map (λ line. line) (map spelled lines) ++ rest
+  pub count : many ≡ length lines

@@ -14,6 +14,7 @@ mod progress;
 mod reading;
 #[cfg(test)]
 mod tests;
+mod tree_lines;
 mod words;
 
 pub use certificate::{

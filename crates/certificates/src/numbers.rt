@@ -1,4 +1,4 @@
-ghost use Rattle.std.specs.Prelude.{◌≡◌, ◌+◌, ◌<◌, ◌^◌, ℕ, Some, IfSome, decimal};
+ghost use Rattle.std.specs.Prelude.{◌≡◌, ◌+◌, ◌++◌, ◌<◌, ◌^◌, ℕ, Some, IfSome, decimal};
 ghost use Rattle.certificates.specs.Lines.{amount_in, place_in, term_in};
 ghost use Rattle.certificates.specs.Words.{number_in};
 
@@ -29,21 +29,33 @@ pub fn place(text: &[u8]) -> Option<u32>
     }
 }
 
-/// The number of which the text is the decimal one, digit by digit, where it is below 10,000.
+/// The number that the text is, where it is below 10,000.
 fn short_number(text: &[u8]) -> Option<u32>
     ensures { IfSome result (λ n. (n < 10000) × (text.now ≡ decimal n)) }
 {
-    let [first, rest @ ..] = text else {
+    let (number, rest) = leading_number(text)?;
+    if rest.is_empty() { Some(number) } else { None }
+}
+
+/// The number with which the bytes begin, up to the first that is no digit, and what follows it; where the number is
+/// below 10,000.
+pub(crate) fn leading_number(bytes: &[u8]) -> Option<(u32, &[u8])>
+    ensures { IfSome result (λ x. (x.0 < 10000) × (bytes.now ≡ decimal x.0 ++ x.1.now)) }
+{
+    let [first, ..] = bytes else {
         return None;
     };
     let mut number = digit(*first)?;
-    for byte in rest {
+    for k in 1..bytes.len() {
+        let Some(unit) = digit(bytes[k]) else {
+            return Some((number, &bytes[k..]));
+        };
         if number == 0 || number >= 1000 {
             return None;
         }
-        number = 10 * number + digit(*byte)?;
+        number = 10 * number + unit;
     }
-    Some(number)
+    Some((number, &bytes[bytes.len()..]))
 }
 
 /// The number that a digit stands for.

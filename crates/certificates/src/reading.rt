@@ -4,6 +4,7 @@ ghost use Rattle.certificates.specs.BadLines.{Spells, IsBadLine};
 use crate::certificate::Certificate;
 use crate::fault::ReadFault;
 use crate::progress::{Progress, after_line};
+use crate::tree_lines::after_tree_lines;
 use crate::words::next_line;
 use std::alloc::Global;
 
@@ -17,12 +18,13 @@ pub fn read(alloc: Global, bytes: &[u8]) -> Result<Certificate, ReadFault>
     let mut number: u64 = 1;
     let mut rest = bytes;
     'lines: while let Some((line, after)) = next_line(rest) {
-        match after_line(alloc, progress, line)? {
-            Some(later) => progress = later,
-            None => return Err(ReadFault::BadLine(number)),
-        }
-        number += 1;
-        rest = after;
+        let Some(later) = after_line(alloc, progress, line)? else {
+            return Err(ReadFault::BadLine(number));
+        };
+        let advance = after_tree_lines(later, after)?;
+        progress = advance.progress;
+        number += 1 + advance.lines;
+        rest = &after[advance.bytes..];
     }
     match progress {
         Progress::Ended(certificate) if rest.is_empty() => Ok(certificate),
