@@ -6,7 +6,7 @@ use Rattle.std.proofs.lemmas.Fmt.{decimal_nonempty}
 use Rattle.std.proofs.lemmas.Bool.{ne_eqb, eq-eqb, both_ways, false≢true, eqb-true}
 use Rattle.std.proofs.lemmas.List.{nil_from_length}
 use Rattle.pnml_grammar.specs.Canon.{escaped, start_tag, end_tag, empty_tag, element, label, name_text, marking_text, weight_text}
-use Rattle.pnml_write.specs.Elements.{after_attributes}
+use Rattle.pnml_write.specs.Elements.{after_attributes, number_text}
 use Rattle.pnml_write.proofs.Pieces.{around_value, two_and_three, some_after, joined, finished}
 use Rattle.pnml_write.proofs.Runs.{escape_some}
 
@@ -44,23 +44,21 @@ name_empty = refl
 decimal_some : (n : ℕ) → n < 2 ^ 64 → decimal n ≢ []
 decimal_some n small e = omega (arith, decimal_nonempty n small, ap length e)
 
-pub marking_none : (n : ℕ) → n ≡ 0 → marking_text n ≡ []
-unfolding marking_text
-marking_none n e = rw (eq-eqb n 0 e) refl
+number_none : (usual : ℕ) (name : List ℕ) (n : ℕ) → n ≡ usual → number_text usual name n ≡ []
+number_none usual name n e = rw (eq-eqb n usual e) refl
 
-pub marking_full : (n : ℕ) → n < 2 ^ 64 → n ≢ 0 → codes "<initialMarking><text>" ++ decimal n ++ codes "</text></initialMarking>" ≡ marking_text n
+number_full : (usual : ℕ) (name : List ℕ) (n : ℕ) → n < 2 ^ 64 → number_text usual name n ≢ []
+    → start_tag name [] ++ start_tag (codes "text") [] ++ decimal n ++ (end_tag (codes "text") ++ end_tag name) ≡ number_text usual name n
+number_full usual name n small some =
+    rw (ne_eqb n usual (λ e. some (number_none usual name n e))) (sym (label_full name (decimal n) (decimal_some n small)))
+
+pub marking_full : (n : ℕ) → n < 2 ^ 64 → marking_text n ≢ [] → codes "<initialMarking><text>" ++ (decimal n ++ codes "</text></initialMarking>") ≡ marking_text n
 unfolding marking_text start_tag end_tag
-marking_full n small other =
-    rw (ne_eqb n 0 other) (sym (label_full (codes "initialMarking") (decimal n) (decimal_some n small)))
+marking_full n small some = number_full 0 (codes "initialMarking") n small some
 
-pub weight_none : (n : ℕ) → n ≡ 1 → weight_text n ≡ []
-unfolding weight_text
-weight_none n e = rw (eq-eqb n 1 e) refl
-
-pub weight_full : (n : ℕ) → n < 2 ^ 64 → n ≢ 1 → codes "<inscription><text>" ++ decimal n ++ codes "</text></inscription>" ≡ weight_text n
+pub weight_full : (n : ℕ) → n < 2 ^ 64 → weight_text n ≢ [] → codes "<inscription><text>" ++ (decimal n ++ codes "</text></inscription>") ≡ weight_text n
 unfolding weight_text start_tag end_tag
-weight_full n small other =
-    rw (ne_eqb n 1 other) (sym (label_full (codes "inscription") (decimal n) (decimal_some n small)))
+weight_full n small some = number_full 1 (codes "inscription") n small some
 
 -- ---- after the attributes
 
@@ -73,14 +71,10 @@ pub name_some : (name : Option (List ℕ)) → true ≡ is_some name → name_te
 name_some None never e = false≢true (sym never)
 name_some (Some name) some e = label_some (escaped name) e
 
-marking_some : (n : ℕ) → n < 2 ^ 64 → n ≢ 0 → marking_text n ≢ []
-marking_some n small other e =
-    let opened : codes "<initialMarking><text>" ++ decimal n ++ codes "</text></initialMarking>" ≡ [] = marking_full n small other ∙ e in
-    cc
-
-weight_some : (n : ℕ) → n < 2 ^ 64 → n ≢ 1 → weight_text n ≢ []
-weight_some n small other e =
-    let opened : codes "<inscription><text>" ++ decimal n ++ codes "</text></inscription>" ≡ [] = weight_full n small other ∙ e in
+label_full_some : (name value : List ℕ) → value ≢ [] → label name value ≢ []
+unfolding start_tag
+label_full_some name value some e =
+    let opened : start_tag name [] ++ start_tag (codes "text") [] ++ value ++ (end_tag (codes "text") ++ end_tag name) ≡ [] = sym (label_full name value some) ∙ e in
     cc
 
 -- a number is compared with the usual one
@@ -88,13 +82,17 @@ decided : {P Q : Type 0} (test : Bool) → (test ≡ true → P) → (test ≡ f
 decided true holds fails = holds refl
 decided false holds fails = fails refl
 
+usual_number : (usual : ℕ) (name : List ℕ) (n : ℕ) → n < 2 ^ 64 → MatchBool (nat_eq n usual) (number_text usual name n ≡ []) (number_text usual name n ≢ [])
+usual_number usual name n small =
+    decided (nat_eq n usual) (λ e. number_none usual name n (eqb-true n usual e)) (λ e. rw (e) (label_full_some name (decimal n) (decimal_some n small)))
+
 pub usual_marking : (n : ℕ) → n < 2 ^ 64 → MatchBool (nat_eq n 0) (marking_text n ≡ []) (marking_text n ≢ [])
-usual_marking n small =
-    decided (nat_eq n 0) (λ e. marking_none n (eqb-true n 0 e)) (λ e. marking_some n small (λ zero. false≢true (sym e ∙ eq-eqb n 0 zero)))
+unfolding marking_text
+usual_marking n small = usual_number 0 (codes "initialMarking") n small
 
 pub usual_weight : (n : ℕ) → n < 2 ^ 64 → MatchBool (nat_eq n 1) (weight_text n ≡ []) (weight_text n ≢ [])
-usual_weight n small =
-    decided (nat_eq n 1) (λ e. weight_none n (eqb-true n 1 e)) (λ e. weight_some n small (λ one. false≢true (sym e ∙ eq-eqb n 1 one)))
+unfolding weight_text
+usual_weight n small = usual_number 1 (codes "inscription") n small
 
 pub after_full : (children end : List ℕ) → children ≢ [] → codes ">" ++ children ++ end ≡ after_attributes children end
 after_full [] end some = absurd (some refl)

@@ -12,6 +12,11 @@ finished (Ok value) before between after written last whole first is e =
     rw (e, first) (append_assoc before written last ∙ ap (λ (t : List ℕ). before ++ t) is)
 finished (Err error) before between after written last whole first is e = tt
 
+-- a piece under another name
+pub told_by : {T E : Type 0} (result : Result T E) (before after piece whole : List ℕ) → piece ≡ whole → OnOk result (after ≡ before ++ piece) → OnOk result (after ≡ before ++ whole)
+told_by (Ok value) before after piece whole is e = e ∙ ap (λ (t : List ℕ). before ++ t) is
+told_by (Err error) before after piece whole is e = tt
+
 pub around_value : (s t v e f : List ℕ) → s ++ (t ++ v ++ e) ++ f ≡ (s ++ t) ++ v ++ (e ++ f)
 around_value s t v e f = simp append_assoc
 

@@ -1,6 +1,6 @@
 ghost use Rattle.std.specs.Prelude.{◌≡◌, ◌≢◌, [], ◌∷◌, ◌++◌, MatchBool, OnOk, codes, decimal};
-ghost use Rattle.pnml_grammar.specs.Canon.{escaped, label, name_text, marking_text, weight_text};
-ghost use Rattle.pnml_write.specs.Elements.{after_attributes, label_text};
+ghost use Rattle.pnml_grammar.specs.Canon.{escaped, label, name_text};
+ghost use Rattle.pnml_write.specs.Elements.{after_attributes, label_text, quoted};
 
 use crate::escapes::push_value;
 use net_values::{NoMemory, Text};
@@ -14,7 +14,7 @@ const USUAL_WEIGHT: u64 = 1;
 /// Appends an attribute: what opens it, up to its first quote, its value and the other quote.
 pub(crate) fn push_attribute(text: &mut Text, opening: &str, value: &Text) -> Result<(), NoMemory>
     ensures { OnOk result
-        (text.new ≡ text.old ++ (opening.now ++ escaped value.now ++ 34 ∷ [])) }
+        (text.new ≡ text.old ++ quoted opening.now value.now) }
 {
     text.push(opening)?;
     push_value(text, value.as_str())?;
@@ -66,35 +66,20 @@ impl NumberLabel {
 pub(crate) fn push_label(text: &mut Text, label: NumberLabel) -> Result<(), NoMemory>
     ensures { OnOk result (text.new ≡ text.old ++ label_text label) }
 {
+    if label.is_usual() {
+        return Ok(());
+    }
     match label {
-        NumberLabel::Marking(tokens) => push_marking(text, tokens),
-        NumberLabel::Weight(weight) => push_weight(text, weight),
+        NumberLabel::Marking(tokens) => push_number_label(
+            text,
+            "<initialMarking><text>",
+            tokens,
+            "</text></initialMarking>",
+        ),
+        NumberLabel::Weight(weight) => {
+            push_number_label(text, "<inscription><text>", weight, "</text></inscription>")
+        }
     }
-}
-
-/// Appends the label with a place's initial marking, where it isn't 0.
-fn push_marking(text: &mut Text, tokens: u64) -> Result<(), NoMemory>
-    ensures { OnOk result (text.new ≡ text.old ++ marking_text tokens) }
-{
-    if tokens == USUAL_MARKING {
-        return Ok(());
-    }
-    push_number_label(
-        text,
-        "<initialMarking><text>",
-        tokens,
-        "</text></initialMarking>",
-    )
-}
-
-/// Appends the label with an arc's weight, where it isn't 1.
-fn push_weight(text: &mut Text, weight: u64) -> Result<(), NoMemory>
-    ensures { OnOk result (text.new ≡ text.old ++ weight_text weight) }
-{
-    if weight == USUAL_WEIGHT {
-        return Ok(());
-    }
-    push_number_label(text, "<inscription><text>", weight, "</text></inscription>")
 }
 
 /// Appends a label with a number between what it begins and what it ends with.

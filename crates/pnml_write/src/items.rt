@@ -3,8 +3,7 @@ ghost use Rattle.pnml_grammar.specs.Canon.{item_text, items_text};
 ghost use Rattle.pnml_write.specs.Pages.{BeginsWithoutEmptyPage};
 
 use crate::nodes::{
-    push_arc, push_empty_page, push_page_start, push_place, push_reference_place,
-    push_reference_transition, push_transition,
+    push_arc, push_empty_page, push_page_start, push_place, push_reference, push_transition,
 };
 use net_values::{Item, NoMemory, PageNode, Text};
 
@@ -60,8 +59,15 @@ fn push_item(text: &mut Text, item: &Item) -> Result<(), NoMemory>
         Item::PageEnd => text.push("</page>"),
         Item::Place(place) => push_place(text, place),
         Item::Transition(transition) => push_transition(text, transition),
-        Item::RefPlace(node) => push_reference_place(text, node),
-        Item::RefTransition(node) => push_reference_transition(text, node),
+        Item::RefPlace(node) => {
+            push_reference(text, "<referencePlace id=\"", node, "</referencePlace>")
+        }
+        Item::RefTransition(node) => push_reference(
+            text,
+            "<referenceTransition id=\"",
+            node,
+            "</referenceTransition>",
+        ),
         Item::Arc(arc) => push_arc(text, arc),
     }
 }

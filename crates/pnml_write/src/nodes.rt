@@ -1,7 +1,7 @@
 ghost use Rattle.std.specs.Prelude.{◌≡◌, [], ◌∷◌, ◌++◌, OnOk, codes};
-ghost use Rattle.net_values.specs.declared.document.Item.TheVariants.{Page, Place, Transition, RefPlace, RefTransition, Arc};
+ghost use Rattle.net_values.specs.declared.document.Item.TheVariants.{Page, Place, Transition, Arc};
 ghost use Rattle.pnml_grammar.specs.Canon.{escaped, element, id_attribute, name_text, item_text};
-ghost use Rattle.pnml_write.specs.Elements.{after_attributes, label_text};
+ghost use Rattle.pnml_write.specs.Elements.{after_attributes, label_text, reference_text};
 
 use crate::elements::{NumberLabel, push_attribute, push_label, push_name_if_any, push_named_rest};
 use net_values::{ArcNode, NoMemory, PageNode, PlaceNode, RefNode, Text, TransitionNode};
@@ -47,22 +47,18 @@ pub(crate) fn push_transition(text: &mut Text, transition: &TransitionNode) -> R
     push_named_rest(text, &transition.name, "</transition>")
 }
 
-/// Appends a reference place.
-pub(crate) fn push_reference_place(text: &mut Text, node: &RefNode) -> Result<(), NoMemory>
-    ensures { OnOk result (text.new ≡ text.old ++ item_text (RefPlace node.now)) }
+/// Appends a reference node: what opens it, up to the first quote of its identifier, and what follows.
+pub(crate) fn push_reference(
+    text: &mut Text,
+    opening: &str,
+    node: &RefNode,
+    end: &str,
+) -> Result<(), NoMemory>
+    ensures { OnOk result (text.new ≡ text.old ++ reference_text opening.now node.now end.now) }
 {
-    push_attribute(text, "<referencePlace id=\"", &node.id)?;
+    push_attribute(text, opening, &node.id)?;
     push_attribute(text, " ref=\"", &node.target)?;
-    push_named_rest(text, &node.name, "</referencePlace>")
-}
-
-/// Appends a reference transition.
-pub(crate) fn push_reference_transition(text: &mut Text, node: &RefNode) -> Result<(), NoMemory>
-    ensures { OnOk result (text.new ≡ text.old ++ item_text (RefTransition node.now)) }
-{
-    push_attribute(text, "<referenceTransition id=\"", &node.id)?;
-    push_attribute(text, " ref=\"", &node.target)?;
-    push_named_rest(text, &node.name, "</referenceTransition>")
+    push_named_rest(text, &node.name, end)
 }
 
 /// Appends an arc.
