@@ -82,6 +82,16 @@ fn long_place(text: &[u8]) -> Option<u32>
 pub(crate) fn flow_number(text: &[u8]) -> Option<u32>
     ensures { result ≡ number_in 1 (2 ^ 32) text.now }
 {
+    match short_number(text) {
+        Some(flow) if flow > 0 => Some(flow),
+        _ => long_flow_number(text),
+    }
+}
+
+/// The number of a flow, where its text may be any.
+fn long_flow_number(text: &[u8]) -> Option<u32>
+    ensures { result ≡ number_in 1 (2 ^ 32) text.now }
+{
     let flow = read_number(1, 0x1_0000_0000, text)?;
     Some(flow as u32)
 }
@@ -90,12 +100,50 @@ pub(crate) fn flow_number(text: &[u8]) -> Option<u32>
 pub(crate) fn amount(least: u128, text: &[u8]) -> Option<i128>
     ensures { result ≡ amount_in least text.now }
 {
+    match short_number(text) {
+        Some(amount) if least <= u128::from(amount) => Some(amount as i128),
+        _ => long_amount(least, text),
+    }
+}
+
+/// An amount, where its text may be any.
+fn long_amount(least: u128, text: &[u8]) -> Option<i128>
+    ensures { result ≡ amount_in least text.now }
+{
     let amount = read_number(least, MAX_TOKENS + 1, text)?;
     Some(amount as i128)
 }
 
 /// A place of a flow with its coefficient.
 pub(crate) fn term(word: &[u8]) -> Option<(u32, i128)>
+    ensures value { result ≡ term_in word.now }
+    ensures range { IfSome result (λ term. term.0 < MAX_PLACES) }
+{
+    match short_term(word) {
+        Some(term) => Some(term),
+        None => long_term(word),
+    }
+}
+
+/// A place of a flow with its coefficient, where both are short.
+fn short_term(word: &[u8]) -> Option<(u32, i128)>
+    ensures value { IfSome result (λ term. term_in word.now ≡ Some term) }
+    ensures range { IfSome result (λ term. term.0 < MAX_PLACES) }
+{
+    let (place, rest) = leading_number(word)?;
+    let [b':', text @ ..] = rest else {
+        return None;
+    };
+    let coefficient = short_number(text)?;
+    if place < MAX_PLACES as u32 && coefficient > 0 {
+        Some((place, coefficient as i128))
+    } else {
+        None
+    }
+}
+
+/// A place of a flow with its coefficient, where the texts of both may be any.
+fn long_term(word: &[u8]) -> Option<(u32, i128)>
     ensures value { result ≡ term_in word.now }
     ensures range { IfSome result (λ term. term.0 < MAX_PLACES) }
 {
