@@ -13,7 +13,8 @@ use Rattle.net_values.specs.Net.{Net}
 use Rattle.net_values.specs.PlaceSets.{has, IsEmpty}
 use Rattle.net_values.proofs.TokenCounts.{nowhere}
 use Rattle.closed_sets.specs.ClosedSets.{IsSiphon, IsNonempty, IsMinimalSiphon, HasSiphonWithout}
-use Rattle.closed_sets.specs.Needed.{AreNeeded, IsLoneInput, IsNeeded, NeedsMore}
+use Rattle.closed_sets.specs.LoneInputs.{IsLoneInput}
+use Rattle.closed_sets.specs.Needed.{AreNeeded, IsNeeded, NeedsMore}
 use Rattle.closed_sets.specs.Passes.{members}
 use Rattle.closed_sets.proofs.Below.{pair_at, pair_from}
 use Rattle.closed_sets.specs.declared.guard.Guard.TheVariants.{Nothing}

@@ -6,6 +6,7 @@ pub mod Growth
 pub mod Commoner
 pub mod Kept
 pub mod Opens
+pub mod LoneInputs
 -- Only clauses of private functions and lemmas cite these.
 pub mod Kinds
 pub mod Passes

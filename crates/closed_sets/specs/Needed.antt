@@ -1,5 +1,5 @@
 -- A place of a set is needed where no nonempty siphon in the set lacks it.
-use Rattle.std.specs.Prelude.{◌≡◌, ◌+◌, ◌<◌, ℕ, List, Bool, IsTrue, Contains, length}
+use Rattle.std.specs.Prelude.{◌≡◌, ◌+◌, ℕ, List, Bool, IsTrue, Contains, length}
 use Rattle.net_values.specs.Net.{Net}
 use Rattle.net_values.specs.PlaceSets.{has}
 use Rattle.closed_sets.specs.ClosedSets.{HasSiphonWithout}
@@ -9,12 +9,6 @@ use Rattle.closed_sets.specs.Passes.{members}
 pub record IsNeeded (net : Net) (set : List Bool) (p : ℕ) : Type 0 where
   pub member : IsTrue (has set p)
   pub none : HasSiphonWithout net (has set) p → ⊥
-
--- the only input place that the transition has in the set
-pub record IsLoneInput (net : Net) (set : List Bool) (t p : ℕ) : Type 0 where
-  pub member : IsTrue (has set p)
-  pub takes : 0 < net.pre p t
-  pub only : (q : ℕ) → q < net.places → IsTrue (has set q) → 0 < net.pre q t → q ≡ p
 
 -- each marked place is needed
 abbrev pub AreNeeded : Net → List Bool → List Bool → Type 0

@@ -28,5 +28,5 @@ pub use laws::{
 pub use leaving::{find_leaving, put_place};
 pub use marked::{find_empty_places, has_marked_trap, has_marked_trap_from};
 pub use minimal::is_minimal_siphon;
-pub use needed::has_no_smaller_siphon;
+pub use needed::{has_no_smaller_siphon, lone_input};
 pub use opens::{add_place, find_open};

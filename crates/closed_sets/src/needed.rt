@@ -2,7 +2,8 @@ ghost use Rattle.std.specs.Prelude.{◌≡◌, ◌<◌, ◌≤◌, ◌↔◌, �
 ghost use Rattle.net_values.specs.FlatNets.{net_of};
 ghost use Rattle.net_values.specs.PlaceSets.{has};
 ghost use Rattle.closed_sets.specs.ClosedSets.{IsMinimalSiphon, IsNonempty, IsSiphon, HasSiphonWithout};
-ghost use Rattle.closed_sets.specs.Needed.{AreNeeded, IsLoneInput, IsNeeded, NeedsMore};
+ghost use Rattle.closed_sets.specs.LoneInputs.{IsLoneInput};
+ghost use Rattle.closed_sets.specs.Needed.{AreNeeded, IsNeeded, NeedsMore};
 ghost use Rattle.closed_sets.specs.Passes.{members};
 
 use crate::fallen::Fallen;
@@ -160,7 +161,7 @@ fn mark(net: &FlatNet, set: &PlaceSet, p: usize, needed: &mut PlaceSet, fallen: 
 }
 
 /// The only input place that transition `t` has in the set, where it has one and no other.
-fn lone_input(net: &FlatNet, set: &PlaceSet, t: usize) -> Option<usize>
+pub fn lone_input(net: &FlatNet, set: &PlaceSet, t: usize) -> Option<usize>
     requires set { length set.now ≡ (net_of net.now).places }
     requires transition { t < (net_of net.now).transitions }
     ensures { MatchOption result ((p : ℕ) → IsLoneInput (net_of net.now) set.now t p → ⊥) (IsLoneInput (net_of net.now) set.now t) }

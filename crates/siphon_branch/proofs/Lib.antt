@@ -5,6 +5,7 @@ pub mod Halves
 pub mod Divisions
 pub mod HeldClasses
 pub mod NextPlaces
+pub mod LoneInputs
 pub mod Descending
 pub mod Underway
 pub mod Beginning

@@ -3,6 +3,8 @@ use Rattle.std.specs.Prelude.{◌≡◌, ◌⊎◌, ℕ, ◌+◌, ◌^◌, ◌<�
 use Rattle.net_values.specs.Net.{Net}
 use Rattle.net_values.specs.PlaceSets.{has}
 use Rattle.closed_sets.specs.ClosedSets.{has_input_in, IsMinimalSiphon}
+use Rattle.closed_sets.specs.Growth.{IsFirst, is_open}
+use Rattle.closed_sets.specs.LoneInputs.{IsLoneInput}
 use Rattle.siphon_branch.specs.declared.branch.Branch.{Branch}
 use Rattle.siphon_branch.specs.declared.live_class.LiveClass.{LiveClass}
 use Rattle.siphon_branch.specs.declared.stack.Stack.{Stack}
@@ -13,6 +15,13 @@ use Rattle.siphon_branch.specs.Searches.{IsDivided, IsMinimalOf}
 -- the transition has no input place in the set
 abbrev pub HasNoInput : Net → (ℕ → Bool) → ℕ → Type 0
 HasNoInput net S t = has_input_in net S t ≡ false
+
+-- the lowest open transition has one input place only in the set that is left
+pub record HasLoneNext (net : Net) (contains left : List Bool) : Type 0 where
+  pub transition : ℕ
+  pub opens : IsFirst net.transitions (is_open net (has contains)) transition
+  pub place : ℕ
+  pub lone : IsLoneInput net left transition place
 
 -- the class was appended where it is live
 abbrev pub KeepsLive : Net → Branch → List LiveClass → List LiveClass → Type 0

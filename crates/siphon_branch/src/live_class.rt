@@ -1,13 +1,13 @@
-ghost use Rattle.std.specs.Prelude.{◌≡◌, ◌<◌, IfOk, OnOk, MatchOption, length, not, slice_set, true};
+ghost use Rattle.std.specs.Prelude.{◌≡◌, ◌<◌, ◌↔◌, IfOk, IsTrue, OnOk, MatchOption, length, not, slice_set, true};
 ghost use Rattle.net_values.specs.FlatNets.{net_of};
 ghost use Rattle.net_values.specs.PlaceSets.{has};
 ghost use Rattle.closed_sets.specs.Growth.{IsFirst, is_input_in};
 ghost use Rattle.siphon_branch.specs.Classes.{HasSize};
 ghost use Rattle.siphon_branch.specs.LiveClasses.{branch_of, IsDead, IsHeld, IsLiveOf, IsNextPlace, IsWhole, part_without};
-ghost use Rattle.siphon_branch.specs.Held.{HasNoInput, KeepsLive};
+ghost use Rattle.siphon_branch.specs.Held.{HasLoneNext, HasNoInput, KeepsLive};
 
 use crate::branch::Branch;
-use closed_sets::{Fallen, add_place, find_open, greatest_siphon, keeps_without};
+use closed_sets::{Fallen, add_place, find_open, greatest_siphon, keeps_without, lone_input};
 use net_values::{FlatNet, List, NoMemory, PlaceSet};
 use std::alloc::Global;
 
@@ -113,7 +113,7 @@ impl LiveClass {
     }
 
     /// Appends the part of the class without place `p`, where it is live. What the scratch set and the scratch list
-    /// hold is lost.
+    /// hold is lost. Where each siphon of the class has the place, the part isn't made.
     pub(crate) fn keep_without(
         &self,
         alloc: Global,
@@ -129,10 +129,25 @@ impl LiveClass {
         ensures left { length left.new ≡ length left.old }
         ensures kept { OnOk result (KeepsLive (net_of net.now) (part_without (branch_of self.now) p) classes.old classes.new) }
     {
+        if self.needs_next(net) {
+            return Ok(());
+        }
         match self.without(alloc, net, p, left, fallen)? {
             Some(part) => classes.push(part),
             None => Ok(()),
         }
+    }
+
+    /// Whether the lowest open transition has no other input place in the greatest siphon than the next place. Then
+    /// each siphon of the class has that place, and no part without it is live.
+    fn needs_next(&self, net: &FlatNet) -> bool
+        requires { IsHeld (net_of net.now) self.now }
+        ensures { IsTrue result ↔ HasLoneNext (net_of net.now) self.now.contains self.now.greatest }
+    {
+        let Some(t) = self.opens.first_from(0) else {
+            return false;
+        };
+        lone_input(net, &self.greatest, t).is_some()
     }
 
     /// Goes on to the part of the class with place `p`.

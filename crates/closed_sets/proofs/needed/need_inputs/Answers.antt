@@ -4,7 +4,7 @@ use Rattle.std.proofs.lemmas.List.{get_or_default}
 use Rattle.std.proofs.lemmas.List.Elements.{Contains-get_or}
 use Rattle.net_values.specs.FlatNets.{net_of}
 use Rattle.net_values.specs.PlaceSets.{has}
-use Rattle.closed_sets.specs.Needed.{IsLoneInput}
+use Rattle.closed_sets.specs.LoneInputs.{IsLoneInput}
 use Rattle.closed_sets.proofs.Falling.{has_below}
 use Rattle.closed_sets.proofs.NeededPlaces.{lone_needed, lone_same, needs_on}
 use Rattle.closed_sets.proofs.needed.need_inputs.Goals as goal

@@ -1,7 +1,8 @@
 use Rattle.std.proofs.Common.{ℕ, ◌<◌, IsTrue, get_or}
 use Rattle.net_values.specs.FlatNets.{net_of}
 use Rattle.net_values.specs.PlaceSets.{has}
-use Rattle.closed_sets.specs.Needed.{IsLoneInput, NeedsMore}
+use Rattle.closed_sets.specs.LoneInputs.{IsLoneInput}
+use Rattle.closed_sets.specs.Needed.{NeedsMore}
 use Rattle.closed_sets.proofs.needed.need_inputs.Given as goal
 
 abbrev pub invariant-loop-t : goal.invariant-loop-t
