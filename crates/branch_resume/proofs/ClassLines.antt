@@ -1,8 +1,8 @@
 -- The line of a class, by its words: it has the words of its places and no others, and no two classes with other places
 -- have one line.
-use Rattle.std.proofs.Common.{◌≡◌, ◌≢◌, refl, sym, ap, ◌∙◌, subst, ℕ, ◌<◌, ◌≤◌, List, [], ◌∷◌, ◌++◌, Bool, length, map, codes, inl, inr, append_assoc, append-nil, arith}
+use Rattle.std.proofs.Common.{◌≡◌, ◌≢◌, refl, sym, ap, ◌∙◌, subst, ℕ, ◌<◌, ◌≤◌, List, [], ◌∷◌, ◌++◌, Bool, length, map, codes, inl, inr, append_assoc, append-nil, arith, replicate, false}
 use Rattle.std.specs.List.{flat_map, AllByRecursion}
-use Rattle.std.proofs.lemmas.List.{append_cancel_right}
+use Rattle.std.proofs.lemmas.List.{append_cancel_right, length-replicate}
 use Rattle.std.proofs.lemmas.Grind.{flat_map-append}
 use Rattle.net_values.specs.declared.limits.TheConstants.{MAX_PLACES}
 use Rattle.certificates.specs.BadLines.{IsLine}
@@ -102,6 +102,24 @@ pub record ReadsWords (size : ℕ) (line rest : List ℕ) (contains avoids : Lis
   pub plus_stops : StopsAfter 43 contains (words_in more)
   pub minus : words_in more ≡ map (signed 45) (places_of avoids) ++ words_in last
   pub minus_stops : StopsAfter 45 avoids (words_in last)
+
+pub reads_words : (size : ℕ) (line rest : List ℕ) (contains avoids first second : List Bool) (more last : List ℕ) → size ≤ MAX_PLACES
+    → first ≡ replicate size false → second ≡ replicate size false → length contains ≡ length first → length avoids ≡ length second
+    → before 32 line ≡ name → rest ≡ from_first 32 line
+    → words_in rest ≡ map (signed 43) (places_of contains) ++ words_in more → StopsAfter 43 contains (words_in more)
+    → words_in more ≡ map (signed 45) (places_of avoids) ++ words_in last → StopsAfter 45 avoids (words_in last)
+    → ReadsWords size line rest contains avoids more last
+reads_words size line rest contains avoids first second more last fits first_is second_is some others word following plus plus_stops minus minus_stops = record {
+  fits = fits;
+  some = some ∙ ap length first_is ∙ length-replicate size false;
+  others = others ∙ ap length second_is ∙ length-replicate size false;
+  word = word;
+  following = following;
+  plus = plus;
+  plus_stops = plus_stops;
+  minus = minus;
+  minus_stops = minus_stops;
+}
 
 module _ (size : ℕ) (line rest : List ℕ) (contains avoids : List Bool) (more last : List ℕ) (h : ReadsWords size line rest contains avoids more last) where
   abbrev read : Branch

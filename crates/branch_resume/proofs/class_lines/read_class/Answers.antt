@@ -1,9 +1,8 @@
 -- What was read of the words tells whether the line is that of a class.
-use Rattle.std.proofs.Common.{rules, arith, ◌≡◌, ◌≢◌, ◌∙◌, sym, ap, ◌≤◌, length, false, codes}
-use Rattle.std.proofs.lemmas.List.{length-replicate}
+use Rattle.std.proofs.Common.{rules, arith, ◌≡◌, ◌≢◌, ◌∙◌, sym, ap, ◌≤◌, length, codes}
 use Rattle.certificates.proofs.ReadLines.{nothing_left}
 use Rattle.branch_resume.specs.Disjoint.{HaveCommon}
-use Rattle.branch_resume.proofs.ClassLines.{ReadsWords, more_names_none, common_names_none, names_read, other_names_none}
+use Rattle.branch_resume.proofs.ClassLines.{reads_words, more_names_none, common_names_none, names_read, other_names_none}
 use Rattle.branch_resume.proofs.class_lines.read_class.Goals as goal
 use Rattle.branch_resume.proofs.class_lines.read_class.Goals.{else-is_empty-via-then-is_empty+else-not-have_common, else-is_empty-via-else-is_empty}
 
@@ -15,34 +14,18 @@ returns-then-not-is_class_word c =
 pub returns-then-not-have_common : goal.returns-then-not-have_common
 returns-then-not-have_common c =
     let word : c.split.result.0.now ≡ codes "class" = search rules in
-    let reads : ReadsWords c.args.size c.args.line.now c.split.result.1.now c.take_places-rest.new.set c.take_places-rest-2.new.set c.take_places-rest.result.now c.take_places-rest-2.result.now = record {
-      fits = c.requires;
-      some = c.take_places-rest.ensures.size ∙ ap length c.in_ok-contains.ensures ∙ length-replicate c.args.size false;
-      others = c.take_places-rest-2.ensures.size ∙ ap length c.in_ok-avoids.ensures ∙ length-replicate c.args.size false;
-      word = sym c.split.ensures.first ∙ word;
-      following = c.split.ensures.rest;
-      plus = c.take_places-rest.ensures.words;
-      plus_stops = c.take_places-rest.ensures.stops;
-      minus = c.take_places-rest-2.ensures.words;
-      minus_stops = c.take_places-rest-2.ensures.stops;
-    } in
+    let reads = reads_words _ c.args.line.now _ _ _ _ _ _ _ c.requires c.in_ok-contains.ensures c.in_ok-avoids.ensures c.take_places-rest.ensures.size c.take_places-rest-2.ensures.size
+    (sym c.split.ensures.first ∙ word) c.split.ensures.rest c.take_places-rest.ensures.words c.take_places-rest.ensures.stops
+    c.take_places-rest-2.ensures.words c.take_places-rest-2.ensures.stops in
     let none : length c.take_places-rest-2.result.now ≡ 0 = search rules in
     names_read _ _ _ _ _ _ _ reads (nothing_left c.take_places-rest-2.result.now none) (search rules)
 
 pub returns-else-is_empty : goal.returns-else-is_empty
 returns-else-is_empty c =
     let word : c.split.result.0.now ≡ codes "class" = search rules in
-    let reads : ReadsWords c.args.size c.args.line.now c.split.result.1.now c.take_places-rest.new.set c.take_places-rest-2.new.set c.take_places-rest.result.now c.take_places-rest-2.result.now = record {
-      fits = c.requires;
-      some = c.take_places-rest.ensures.size ∙ ap length c.in_ok-contains.ensures ∙ length-replicate c.args.size false;
-      others = c.take_places-rest-2.ensures.size ∙ ap length c.in_ok-avoids.ensures ∙ length-replicate c.args.size false;
-      word = sym c.split.ensures.first ∙ word;
-      following = c.split.ensures.rest;
-      plus = c.take_places-rest.ensures.words;
-      plus_stops = c.take_places-rest.ensures.stops;
-      minus = c.take_places-rest-2.ensures.words;
-      minus_stops = c.take_places-rest-2.ensures.stops;
-    } in
+    let reads = reads_words _ c.args.line.now _ _ _ _ _ _ _ c.requires c.in_ok-contains.ensures c.in_ok-avoids.ensures c.take_places-rest.ensures.size c.take_places-rest-2.ensures.size
+    (sym c.split.ensures.first ∙ word) c.split.ensures.rest c.take_places-rest.ensures.words c.take_places-rest.ensures.stops
+    c.take_places-rest-2.ensures.words c.take_places-rest-2.ensures.stops in
     elim c.else-is_empty.branch [
       | else-is_empty-via-then-is_empty+else-not-have_common w ↦
           let common : HaveCommon c.take_places-rest.new.set c.take_places-rest-2.new.set = search rules in
