@@ -63,6 +63,7 @@ impl KnownTraps {
         requires unmarked { IsInitiallyEmpty (net_of net.now) unmarked.now }
         requires place { p < (net_of net.now).places }
         ensures exact { IsTrue result ↔ HasMarkedTrap (net_of net.now) (has set.now) }
+        ensures known { IsTrue result → IsTrue (has self.new.known p) }
         ensures room { HasRoomFor (net_of net.now).places self.new }
         ensures traps { AreMarkedTraps (net_of net.now) self.new }
     {
