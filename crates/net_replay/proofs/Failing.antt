@@ -1,14 +1,14 @@
 -- A list fires within range or a member of it is refused, one of the two and in one way: both are followed from the
 -- first member on.
 use Rattle.std.proofs.Common.{◌≡◌, ◌⊎◌, refl, sym, ap, subst, ℕ, zero, suc, ◌-◌, ◌^◌, ◌<◌, ◌≤◌, List, [], ◌∷◌, length, take, All, ltb, inl, inr, slice_index, arith}
-use Rattle.std.proofs.lemmas.Bool.{cases_order, ltb-true, ltb-false}
+use Rattle.std.proofs.lemmas.Bool.{ltb-true, ltb-false}
 use Rattle.std.proofs.lemmas.List.Elements.{All-tail}
 use Rattle.net_values.specs.Net.{Net}
 use Rattle.net_values.specs.TokenGame.{IsEnabled, after, NoneOverflows, IsLowest, Lacks, Overflows, FailsToFire}
 use Rattle.net_values.specs.declared.token_game.FireFault.{FireFault}
 use Rattle.net_values.specs.declared.token_game.FireFault.TheVariants.{NotEnabled, WideMarking}
 use Rattle.net_replay.specs.Replays.{FiresTo, FiresWithinRange, FailsAt}
-use Rattle.net_replay.proofs.Lowest.{lowest_or_none}
+use Rattle.net_replay.proofs.Lowest.{lowest_or_none, lowest_is_one}
 use Rattle.net_replay.proofs.Firing.{Agree, after_agree, enabled_too}
 
 module _ (net : Net) where
@@ -39,14 +39,7 @@ module _ (net : Net) where
       absurd (omega arith)
 
   one_lowest : (P : ℕ → Type 0) (p q : ℕ) → IsLowest net P p → IsLowest net P q → p ≡ q
-  one_lowest P p q one other =
-      elim (cases_order p q) [
-        | inl same ↦ same
-        | inr rest ↦ elim rest [
-          | inl below ↦ absurd (other.lowest p below one.holds)
-          | inr above ↦ absurd (one.lowest q above other.holds)
-        ]
-      ]
+  one_lowest P p q one other = lowest_is_one P p q one.holds one.lowest other.holds other.lowest
 
   one_refusal : (M : ℕ → ℕ) (t : ℕ) (f g : FireFault) → FailsToFire net M t f → FailsToFire net M t g → f ≡ g
   one_refusal M t (NotEnabled p) (NotEnabled q) one other = ap NotEnabled (one_lowest (Lacks net M t) p q one other)

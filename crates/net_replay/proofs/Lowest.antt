@@ -19,3 +19,14 @@ lowest_or_none test (suc n) =
         ])
       ]
     ]
+
+-- two numbers of which the property holds and of none below are one
+pub lowest_is_one : (P : ℕ → Type 0) (p q : ℕ) → P p → ((r : ℕ) → r < p → P r → ⊥) → P q → ((r : ℕ) → r < q → P r → ⊥) → p ≡ q
+lowest_is_one P p q p_holds below_p q_holds below_q =
+    elim (cases_order p q) [
+      | inl same ↦ same
+      | inr rest ↦ elim rest [
+        | inl below ↦ absurd (below_q p below p_holds)
+        | inr above ↦ absurd (below_p q above q_holds)
+      ]
+    ]

@@ -2,7 +2,6 @@
 -- none is found, or no line feed follows, the next line is the bad one. Bytes have one list of lines, so one reading.
 use Rattle.std.proofs.Common.{◌≡◌, ◌≢◌, refl, sym, ap, ◌∙◌, subst, ℕ, zero, suc, ◌+◌, ◌<◌, List, [], ◌∷◌, ◌++◌, length, All, Option, Some, None, true≢false, inl, inr, append_assoc, append-nil, arith}
 use Rattle.std.specs.List.{AllZip, AllByRecursion}
-use Rattle.std.proofs.lemmas.Bool.{cases_order}
 use Rattle.std.proofs.lemmas.List.{append_cancel_right}
 use Rattle.std.proofs.lemmas.Grind.{flat_map-append}
 use Rattle.std.proofs.lemmas.Slice.Eq.{bytes_eq-Decides}
@@ -12,10 +11,10 @@ use Rattle.certificates.specs.BadLines.{IsLine, AreLinesOf}
 use Rattle.certificates.proofs.Cuts.{IsFree}
 use Rattle.certificates.proofs.LineSplits.{NoFeed, bytes_of, same_lines, has_lines}
 use Rattle.certificates.proofs.Lists.{all_each, each_all, each_append}
-use Rattle.net_replay.specs.FiringLists.{IsFiringLine, HasNoTransition, ListsFirings, EndsFirings, IsBadFiringLine}
+use Rattle.net_replay.specs.FiringLists.{IsFiringLine, SpellsId, HasNoTransition, ListsFirings, EndsFirings, IsBadFiringLine}
 use Rattle.net_replay.specs.Laws.{AFiringListOrABadLine, OneFiringList}
 use Rattle.net_replay.specs.Numbers.{IsFoundFrom}
-use Rattle.net_replay.proofs.Lowest.{lowest_or_none}
+use Rattle.net_replay.proofs.Lowest.{lowest_or_none, lowest_is_one}
 
 module _ (net : Net) (ids : ℕ → List ℕ) where
   abbrev IsGood : List ℕ → Type 0
@@ -189,14 +188,7 @@ module _ (net : Net) (ids : ℕ → List ℕ) where
       same_lines lines others rest end (all_each IsLine lines first.each) (all_each IsLine others second.each) (all_each NoFeed rest first.unended) (all_each NoFeed end second.unended) (sym first.joined ∙ second.joined)
 
   one_number : (line : List ℕ) (t u : ℕ) → IsFiringLine net ids line t → IsFiringLine net ids line u → t ≡ u
-  one_number line t u one other =
-      elim (cases_order t u) [
-        | inl same ↦ same
-        | inr rest ↦ elim rest [
-          | inl below ↦ absurd (other.lowest t below one.spelled)
-          | inr above ↦ absurd (one.lowest u above other.spelled)
-        ]
-      ]
+  one_number line t u one other = lowest_is_one (λ v. SpellsId line (ids v)) t u one.spelled one.lowest other.spelled other.lowest
 
   one_zip : (lines : List (List ℕ)) (ts us : List ℕ) → AllZip (IsFiringLine net ids) lines ts → AllZip (IsFiringLine net ids) lines us → ts ≡ us
   one_zip [] [] [] one other = refl
