@@ -1,4 +1,4 @@
--- A search below a bound.
+-- The lowest number that passes a test: a search for it below a bound, and why there is only one.
 use Rattle.std.proofs.Common.{◌≡◌, ◌⊎◌, sym, subst, ℕ, zero, suc, ◌<◌, Bool, true, false, inl, inr, arith}
 use Rattle.std.proofs.lemmas.Bool.{cases_Bool, cases_order}
 
