@@ -1,7 +1,7 @@
 -- The parts of a class that is held: the one with the next place is held with the same greatest siphon, the other
 -- where the greatest siphon without that place still has what is contained.
-use Rattle.std.proofs.Common.{◌≡◌, ◌≢◌, ◌↔◌, ◌⊎◌, refl, sym, ap, ◌∙◌, subst, ℕ, ◌<◌, ◌==◌, ◌&&◌, List, [], ◌∷◌, ◌++◌, append_assoc, Bool, true, false, IsTrue, not, length, set, length-set, inl, inr, arith}
-use Rattle.std.proofs.lemmas.Bool.{cases_Bool, cases_eq, both_ways, or_left, or_right, and_from, and_parts, eq-eqb, not-true, not_from_false}
+use Rattle.std.proofs.Common.{◌≡◌, ◌≢◌, ◌↔◌, ◌⊎◌, refl, sym, ap, ◌∙◌, subst, ℕ, ◌<◌, ◌==◌, ◌&&◌, List, [], ◌∷◌, ◌++◌, append_assoc, Bool, true, false, IsTrue, not, length, set, length-set, inl, inr, MatchBool, arith}
+use Rattle.std.proofs.lemmas.Bool.{false≢true, cases_Bool, cases_eq, both_ways, or_left, or_right, and_from, and_parts, eq-eqb, not-true, not_from_false}
 use Rattle.std.proofs.lemmas.List.{get_or-set_same, get_or-set_other, get_or_default, same_lists, map-append}
 use Rattle.std.proofs.lemmas.List.Elements.{Contains-append_cases}
 use Rattle.net_values.specs.Net.{Net}
@@ -17,7 +17,7 @@ use Rattle.siphon_branch.specs.declared.branch.Branch.{Branch}
 use Rattle.siphon_branch.specs.declared.live_class.LiveClass.{LiveClass}
 use Rattle.siphon_branch.specs.Classes.{AreDisjoint, HasSize, IsConsistent, IsGrownSetIn}
 use Rattle.siphon_branch.specs.LiveClasses.{branch_of, branches_of, IsDead, IsHeld, IsLiveOf, IsNextPlace, IsWhole, part_containing, part_without}
-use Rattle.siphon_branch.specs.Held.{KeepsLive}
+use Rattle.siphon_branch.specs.Held.{KeepsLive, part_left}
 use Rattle.siphon_branch.specs.Searches.{IsDivided}
 use Rattle.siphon_branch.proofs.Complements.{has_within}
 use Rattle.siphon_branch.proofs.Divisions.{Splits, splits_turned, divided_on, some_left, some_right, some_cases, some_one, from_one, pairs_one}
@@ -297,11 +297,11 @@ module _ (net : Net) (class : LiveClass) (held : IsHeld net class) where
         ])) in
         both_ways (S loses.place) (loses.lost S siphon within) (belongs.has_all loses.place loses.below loses.kept)
 
-    pub dead_empty : (left : List Bool) → KeepsWithout net class.contains p class.greatest left → IsEmpty left → IsDead net Without
+    dead_empty : (left : List Bool) → KeepsWithout net class.contains p class.greatest left → IsEmpty left → IsDead net Without
     dead_empty left keeps empty = dead_from net Without left (greatest_less left keeps.greatest) (inl empty)
 
     -- else it is held with what is left
-    pub without_held : (left : List Bool) → length left ≡ net.places → KeepsWithout net class.contains p class.greatest left → (IsEmpty left → ⊥) → IsHeld net record { contains = class.contains; avoids = set class.avoids p true; greatest = left; opens = class.opens }
+    without_held : (left : List Bool) → length left ≡ net.places → KeepsWithout net class.contains p class.greatest left → (IsEmpty left → ⊥) → IsHeld net (part_left class p left)
     without_held left size keeps some = record {
       size = without_size;
       room = size;
@@ -320,8 +320,10 @@ module _ (net : Net) (class : LiveClass) (held : IsHeld net class) where
     pub in_contains : p < length class.contains
     in_contains = omega (arith, below, held.size.contains)
 
-    pub part_live : (left : List Bool) → length left ≡ net.places → KeepsWithout net class.contains p class.greatest left → (IsEmpty left → ⊥) → (contains avoids avoids' greatest opens : List Bool) → contains ≡ class.contains → avoids ≡ class.avoids → avoids' ≡ set avoids p true → greatest ≡ left → opens ≡ class.opens → IsLiveOf net Without record { contains = contains; avoids = avoids'; greatest = greatest; opens = opens }
-    part_live left size keeps some contains avoids avoids' greatest opens same before after rest same' =
-        let equal : ◌≡◌ {A = LiveClass} record { contains = class.contains; avoids = set class.avoids p true; greatest = left; opens = class.opens } record { contains = contains; avoids = avoids'; greatest = greatest; opens = opens } =
-        λ i. record { contains = sym same i; avoids = sym (after ∙ ap (λ (list : List Bool). set list p true) before) i; greatest = sym rest i; opens = sym same' i } in
-        subst (λ (c : LiveClass). IsLiveOf net Without c) equal record { held = without_held left size keeps some; same = refl }
+    -- whether the part without the place is live
+    pub part_decided : (left : List Bool) (empty : Bool) → length left ≡ net.places → KeepsWithout net class.contains p class.greatest left → IsTrue empty ↔ IsEmpty left → MatchBool (not empty) (IsHeld net (part_left class p left)) (IsDead net Without)
+    part_decided left true size keeps exact = dead_empty left keeps (exact.0 refl)
+    part_decided left false size keeps exact = without_held left size keeps (λ empty. false≢true (exact.1 empty))
+
+    pub part_live : (left : List Bool) (part : LiveClass) → IsHeld net (part_left class p left) → part ≡ part_left class p left → IsLiveOf net Without part
+    part_live left part held' same = subst (λ (c : LiveClass). IsLiveOf net Without c) (sym same) record { held = held'; same = refl }

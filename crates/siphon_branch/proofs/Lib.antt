@@ -6,6 +6,7 @@ pub mod Divisions
 pub mod HeldClasses
 pub mod NextPlaces
 pub mod LoneInputs
+pub mod Spares
 pub mod Descending
 pub mod Underway
 pub mod Beginning

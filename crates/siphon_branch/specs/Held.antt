@@ -1,5 +1,5 @@
 -- What a search keeps while it goes on: the live classes that aren't taken yet, what was met and what was found.
-use Rattle.std.specs.Prelude.{◌≡◌, ◌⊎◌, ℕ, ◌+◌, ◌^◌, ◌<◌, ◌≤◌, List, [], ◌∷◌, ◌++◌, Bool, false, All, length}
+use Rattle.std.specs.Prelude.{◌≡◌, ◌⊎◌, ℕ, ◌+◌, ◌^◌, ◌<◌, ◌≤◌, List, [], ◌∷◌, ◌++◌, Bool, true, false, All, length, slice_set}
 use Rattle.net_values.specs.Net.{Net}
 use Rattle.net_values.specs.PlaceSets.{has}
 use Rattle.closed_sets.specs.ClosedSets.{has_input_in, IsMinimalSiphon}
@@ -8,6 +8,7 @@ use Rattle.closed_sets.specs.LoneInputs.{IsLoneInput}
 use Rattle.siphon_branch.specs.declared.branch.Branch.{Branch}
 use Rattle.siphon_branch.specs.declared.live_class.LiveClass.{LiveClass}
 use Rattle.siphon_branch.specs.declared.stack.Stack.{Stack}
+use Rattle.siphon_branch.specs.Classes.{HasSize}
 use Rattle.siphon_branch.specs.LiveClasses.{branch_of, branches_of, IsDead, IsHeld, IsLiveOf, IsWhole}
 use Rattle.siphon_branch.specs.Met.{IsListOf}
 use Rattle.siphon_branch.specs.Searches.{IsDivided, IsMinimalOf}
@@ -22,6 +23,23 @@ pub record HasLoneNext (net : Net) (contains left : List Bool) : Type 0 where
   pub opens : IsFirst net.transitions (is_open net (has contains)) transition
   pub place : ℕ
   pub lone : IsLoneInput net left transition place
+
+-- the part of the class without the place, where this is its greatest siphon
+abbrev pub part_left : LiveClass → ℕ → List Bool → LiveClass
+part_left class p left = record { contains = class.contains; avoids = slice_set class.avoids p true; greatest = left; opens = class.opens }
+
+-- the sets of two classes have the same sizes, so the one can be written over the other
+pub record HasSizesOf (class other : LiveClass) : Type 0 where
+  pub contains : length other.contains ≡ length class.contains
+  pub avoids : length other.avoids ≡ length class.avoids
+  pub greatest : length other.greatest ≡ length class.greatest
+  pub opens : length other.opens ≡ length class.opens
+
+-- the sets of the class have the sizes of the net
+pub record IsSized (net : Net) (class : LiveClass) : Type 0 where
+  pub size : HasSize net.places (branch_of class)
+  pub room : length class.greatest ≡ net.places
+  pub opens : length class.opens ≡ net.transitions
 
 -- the class was appended where it is live
 abbrev pub KeepsLive : Net → Branch → List LiveClass → List LiveClass → Type 0

@@ -7,6 +7,7 @@ mod laws;
 mod list;
 mod live_class;
 mod progress;
+mod scratch;
 mod search;
 mod stack;
 #[cfg(test)]

@@ -1,12 +1,13 @@
-ghost use Rattle.std.specs.Prelude.{◌≡◌, ◌<◌, ◌↔◌, IfOk, IsTrue, OnOk, MatchOption, length, not, slice_set, true};
+ghost use Rattle.std.specs.Prelude.{◌≡◌, ◌<◌, ◌↔◌, All, IfOk, IsTrue, OnOk, MatchBool, MatchOption, length, not, slice_set, true};
 ghost use Rattle.net_values.specs.FlatNets.{net_of};
 ghost use Rattle.net_values.specs.PlaceSets.{has};
 ghost use Rattle.closed_sets.specs.Growth.{IsFirst, is_input_in};
 ghost use Rattle.siphon_branch.specs.Classes.{HasSize};
 ghost use Rattle.siphon_branch.specs.LiveClasses.{branch_of, IsDead, IsHeld, IsLiveOf, IsNextPlace, IsWhole, part_without};
-ghost use Rattle.siphon_branch.specs.Held.{HasLoneNext, HasNoInput, KeepsLive};
+ghost use Rattle.siphon_branch.specs.Held.{HasLoneNext, HasNoInput, HasSizesOf, KeepsLive, part_left};
 
 use crate::branch::Branch;
+use crate::scratch::{Scratch, copy_to_spare};
 use closed_sets::{Fallen, add_place, find_open, greatest_siphon, keeps_without, lone_input};
 use net_values::{FlatNet, List, NoMemory, PlaceSet};
 use std::alloc::Global;
@@ -54,6 +55,17 @@ impl LiveClass {
         })
     }
 
+    /// Makes this class equal to another of the same sizes. It takes no memory.
+    pub(crate) fn copy_over(&mut self, other: &LiveClass)
+        requires { HasSizesOf other.now self.old }
+        ensures { self.new ≡ other.now }
+    {
+        self.contains.copy_from(&other.contains);
+        self.avoids.copy_from(&other.avoids);
+        self.greatest.copy_from(&other.greatest);
+        self.opens.copy_from(&other.opens);
+    }
+
     /// The class alone.
     pub(crate) fn branch(&self, alloc: Global) -> Result<Branch, NoMemory>
         ensures { IfOk result (λ class. class ≡ branch_of self.now) }
@@ -98,44 +110,81 @@ impl LiveClass {
         ensures part { IfOk result (λ part. MatchOption part (IsDead (net_of net.now) (part_without (branch_of self.now) p))
             (IsLiveOf (net_of net.now) (part_without (branch_of self.now) p))) }
     {
-        left.copy_from(&self.greatest);
-        if !keeps_without(net, left, p, &self.contains, fallen) || left.is_empty() {
+        if !self.is_live_without(net, p, left, fallen) {
             return Ok(None);
         }
-        let mut avoids = self.avoids.copy(alloc)?;
-        avoids.insert(p);
-        Ok(Some(LiveClass {
-            contains: self.contains.copy(alloc)?,
-            avoids,
-            greatest: left.copy(alloc)?,
-            opens: self.opens.copy(alloc)?,
-        }))
+        let mut part = self.copy(alloc)?;
+        part.leave_out(p, left);
+        Ok(Some(part))
     }
 
-    /// Appends the part of the class without place `p`, where it is live. What the scratch set and the scratch list
-    /// hold is lost. Where each siphon of the class has the place, the part isn't made.
+    /// Whether the part of the class without place `p` is live. Its greatest siphon is left in the scratch set then.
+    /// What the scratch list holds is lost.
+    fn is_live_without(
+        &self,
+        net: &FlatNet,
+        p: usize,
+        left: &mut PlaceSet,
+        fallen: &mut Fallen,
+    ) -> bool
+        requires held { IsHeld (net_of net.now) self.now }
+        requires next { IsNextPlace (net_of net.now) (has self.now.contains) (has self.now.greatest) p }
+        requires left { length left.old ≡ (net_of net.now).places }
+        ensures left { length left.new ≡ length left.old }
+        ensures part { MatchBool result (IsHeld (net_of net.now) (part_left self.now p left.new))
+            (IsDead (net_of net.now) (part_without (branch_of self.now) p)) }
+    {
+        left.copy_from(&self.greatest);
+        if !keeps_without(net, left, p, &self.contains, fallen) {
+            return false;
+        }
+        !left.is_empty()
+    }
+
+    /// Goes on to the part of the class without place `p`, whose greatest siphon is given.
+    fn leave_out(&mut self, p: usize, greatest: &PlaceSet)
+        requires place { p < length self.old.avoids }
+        requires greatest { length self.old.greatest ≡ length greatest.now }
+        ensures { self.new ≡ part_left self.old p greatest.now }
+    {
+        self.avoids.insert(p);
+        self.greatest.copy_from(greatest);
+    }
+
+    /// Appends the part of the class without place `p`, where it is live, written over a spare class where there is one.
+    /// Where each siphon of the class has the place, the part isn't looked at.
     pub(crate) fn keep_without(
         &self,
         alloc: Global,
         net: &FlatNet,
         p: usize,
         classes: &mut List<LiveClass>,
-        left: &mut PlaceSet,
-        fallen: &mut Fallen,
+        scratch: &mut Scratch,
     ) -> Result<(), NoMemory>
         requires held { IsHeld (net_of net.now) self.now }
         requires next { IsNextPlace (net_of net.now) (has self.now.contains) (has self.now.greatest) p }
-        requires left { length left.old ≡ (net_of net.now).places }
-        ensures left { length left.new ≡ length left.old }
+        requires left { length scratch.old.left ≡ (net_of net.now).places }
+        requires spares { All (HasSizesOf self.now) scratch.old.spares }
+        ensures left { length scratch.new.left ≡ length scratch.old.left }
+        ensures needed { scratch.new.needed ≡ scratch.old.needed }
+        ensures spares { All (HasSizesOf self.now) scratch.new.spares }
         ensures kept { OnOk result (KeepsLive (net_of net.now) (part_without (branch_of self.now) p) classes.old classes.new) }
     {
         if self.needs_next(net) {
             return Ok(());
         }
-        match self.without(alloc, net, p, left, fallen)? {
-            Some(part) => classes.push(part),
-            None => Ok(()),
+        let Scratch {
+            left,
+            fallen,
+            spares,
+            ..
+        } = scratch;
+        if !self.is_live_without(net, p, left, fallen) {
+            return Ok(());
         }
+        let mut part = copy_to_spare(alloc, self, spares)?;
+        part.leave_out(p, left);
+        classes.push(part)
     }
 
     /// Whether the lowest open transition has no other input place in the greatest siphon than the next place. Then

@@ -2,21 +2,13 @@ ghost use Rattle.std.specs.Prelude.{◌≡◌, [], ◌⊎◌, ◌++◌, ◌∷�
 ghost use Rattle.net_values.specs.FlatNets.{net_of};
 ghost use Rattle.net_values.specs.PlaceSets.{has};
 ghost use Rattle.siphon_branch.specs.LiveClasses.{IsHeld, IsWhole};
-ghost use Rattle.siphon_branch.specs.Held.{AddsFound, Descends, Extends, IsSomehowUnderway, KeepsUnderway};
+ghost use Rattle.siphon_branch.specs.Held.{AddsFound, Descends, Extends, IsSized, IsSomehowUnderway, KeepsUnderway};
 
 use crate::live_class::LiveClass;
-use closed_sets::{Fallen, has_no_smaller_siphon};
+use crate::scratch::Scratch;
+use closed_sets::has_no_smaller_siphon;
 use net_values::{FlatNet, List, NoMemory, PlaceSet, Sets};
 use std::alloc::Global;
-
-/// What a walk writes over: what is left of a class's greatest siphon, the places of a siphon that it needs, and a list
-/// of places.
-#[derive(Drop)]
-pub(crate) struct Scratch {
-    left: PlaceSet,
-    needed: PlaceSet,
-    fallen: Fallen,
-}
 
 /// Takes classes, the last one first, and meets a siphon in each, until so many siphons are met or no class is left.
 pub(crate) fn walk(
@@ -35,48 +27,41 @@ pub(crate) fn walk(
     ensures within { length met.new ≤ end }
     ensures ended { OnOk result ((length met.new ≡ end) ⊎ (classes.new ≡ [])) }
 {
-    let mut scratch = Scratch {
-        left: PlaceSet::new(alloc, net.places())?,
-        needed: PlaceSet::new(alloc, net.places())?,
-        fallen: Fallen::none(),
-    };
+    let mut scratch = Scratch::new(alloc, net)?;
     'siphons: while met.len() < end {
         let Some(class) = classes.pop() else {
             return Ok(());
         };
-        let siphon = descend(
-            alloc,
-            net,
-            class,
-            classes,
-            &mut scratch.left,
-            &mut scratch.fallen,
-        )?;
+        let siphon = descend(alloc, net, class, classes, &mut scratch)?;
         add(alloc, net, siphon, met, found, &mut scratch)?;
     }
     Ok(())
 }
 
 /// Goes down a class to the siphon whose growth always takes the next place: each step parts the class in two
-/// and keeps the part without that place, where it is live.
+/// and keeps the part without that place, where it is live. The class that is done is a spare one then.
 fn descend(
     alloc: Global,
     net: &FlatNet,
     mut class: LiveClass,
     classes: &mut List<LiveClass>,
-    left: &mut PlaceSet,
-    fallen: &mut Fallen,
+    scratch: &mut Scratch,
 ) -> Result<PlaceSet, NoMemory>
     requires held { IsHeld (net_of net.now) class }
-    requires left { length left.old ≡ (net_of net.now).places }
-    ensures left { length left.new ≡ length left.old }
+    requires left { length scratch.old.left ≡ (net_of net.now).places }
+    requires spares { All (IsSized (net_of net.now)) scratch.old.spares }
+    ensures left { length scratch.new.left ≡ length scratch.old.left }
+    ensures needed { scratch.new.needed ≡ scratch.old.needed }
+    ensures spares { OnOk result (All (IsSized (net_of net.now)) scratch.new.spares) }
     ensures siphon { IfOk result (λ siphon. Descends (net_of net.now) class classes.old classes.new siphon) }
 {
     'class: while let Some(p) = class.next_place(net) {
-        class.keep_without(alloc, net, p, classes, left, fallen)?;
+        class.keep_without(alloc, net, p, classes, scratch)?;
         class.take(net, p);
     }
-    Ok(class.contains)
+    let siphon = class.contains.copy(alloc)?;
+    scratch.spares.push(class)?;
+    Ok(siphon)
 }
 
 /// Appends a siphon to those that were met, and to the minimal ones where it is one.
@@ -96,6 +81,7 @@ fn add(
     requires needed { length scratch.old.needed ≡ (net_of net.now).places }
     ensures left { length scratch.new.left ≡ length scratch.old.left }
     ensures needed { length scratch.new.needed ≡ length scratch.old.needed }
+    ensures spares { scratch.new.spares ≡ scratch.old.spares }
     ensures extends { Extends found.old found.new }
     ensures met { OnOk result (met.new ≡ met.old ++ siphon ∷ []) }
     ensures err { OnErr result (met.new ≡ met.old) }
@@ -105,6 +91,7 @@ fn add(
         left,
         needed,
         fallen,
+        ..
     } = scratch;
     if has_no_smaller_siphon(net, &siphon, needed, left, fallen) {
         found.push(siphon.copy(alloc)?)?;

@@ -1,9 +1,9 @@
-use Rattle.std.proofs.Common.{◌∙◌, subst, List, inr, arith}
+use Rattle.std.proofs.Common.{◌∙◌, sym, ap, subst, List, length, inr, All, arith}
 use Rattle.std.proofs.lemmas.Bool.{false≢true}
 use Rattle.std.proofs.lemmas.List.{append-nil}
 use Rattle.net_values.specs.FlatNets.{net_of}
 use Rattle.siphon_branch.specs.declared.live_class.LiveClass.{LiveClass}
-use Rattle.siphon_branch.specs.Held.{IsUnderway}
+use Rattle.siphon_branch.specs.Held.{IsSized, IsUnderway}
 use Rattle.siphon_branch.proofs.Underway.{popped_none, walking_some, walking_more, last_held, met_sizes, found_sizes}
 use Rattle.siphon_branch.proofs.walk.walk.Goals as goal
 
@@ -39,5 +39,6 @@ siphons-preserved c = (
   walking_more (net_of c.args.net.now) c.args.classes.now c.siphons.classes c.args.met.now c.siphons.met c.args.found.now c.siphons.found c.siphons.scratch.left c.args.end c.siphons.invariant.0
       c.pop.new.self c.in-Some.class c.descend.new.classes c.in_ok-siphon.siphon c.add.new.met c.add.new.found c.add.new.scratch.left (omega arith) c.in-Some.ensures.last c.in_ok-siphon.ensures.siphon
       c.in_ok-add.ensures.met c.in_ok-add.ensures.found c.in_ok-add.ensures.extends (c.in_ok-add.ensures.left ∙ c.in_ok-siphon.ensures.left ∙ c.siphons.invariant.0.room),
-  c.in_ok-add.ensures.needed ∙ c.siphons.invariant.1,
+  c.in_ok-add.ensures.needed ∙ ap length c.in_ok-siphon.ensures.needed ∙ c.siphons.invariant.1,
+  subst (λ (spares : List LiveClass). All (IsSized (net_of c.args.net.now)) spares) (sym c.in_ok-add.ensures.spares) c.in_ok-siphon.ensures.spares,
 )

@@ -1,11 +1,12 @@
-use Rattle.std.proofs.Common.{◌≡◌, refl, subst, inl, inr, List, [], ◌∷◌, ◌++◌, Result, Ok, Err, OnOk, Option, MatchOption}
+use Rattle.std.proofs.Common.{◌≡◌, refl, ap, ◌∙◌, inl, inr, List, [], ◌∷◌, ◌++◌, Result, Ok, Err, OnOk}
 use Rattle.net_values.specs.FlatNets.{net_of}
 use Rattle.net_values.specs.Net.{Net}
 use Rattle.net_values.specs.declared.no_memory.NoMemory.{NoMemory}
 use Rattle.siphon_branch.specs.declared.branch.Branch.{Branch}
 use Rattle.siphon_branch.specs.declared.live_class.LiveClass.{LiveClass}
-use Rattle.siphon_branch.specs.LiveClasses.{branch_of, IsDead, IsLiveOf, part_without}
-use Rattle.siphon_branch.specs.Held.{KeepsLive}
+use Rattle.siphon_branch.specs.LiveClasses.{branch_of, IsLiveOf, part_without}
+use Rattle.siphon_branch.specs.Held.{KeepsLive, part_left}
+use Rattle.siphon_branch.proofs.HeldClasses.{part_live}
 use Rattle.siphon_branch.proofs.LoneInputs.{lone_dead}
 use Rattle.siphon_branch.proofs.live_class.LiveClass.keep_without.Goals as goal
 
@@ -17,9 +18,11 @@ pub returns-then-needs_next-clause-kept : goal.returns-then-needs_next-clause-ke
 returns-then-needs_next-clause-kept c =
     inl (refl, lone_dead (net_of c.args.net.now) c.args.self.now c.requires.held (c.if-needs_next.ensures.0 refl) c.args.p c.requires.next)
 
-pub returns-in-Some-clause-kept : goal.returns-in-Some-clause-kept
-returns-in-Some-clause-kept c =
+pub returns-clause-kept : goal.returns-clause-kept
+returns-clause-kept c =
     let net = net_of c.args.net.now in
-    let class : Branch = part_without (branch_of c.args.self.now) c.args.p in
-    let live : IsLiveOf net class c.in-Some.part = subst (λ (o : Option LiveClass). MatchOption o (IsDead net class) (IsLiveOf net class)) c.in-Some.is c.in_ok-part.ensures.part in
-    pushed_live net class c.in-Some.part c.args.classes.now c.push.new.self c.push.result live c.push.ensures.ok
+    let class = c.args.self.now in
+    let left = c.is_live_without.new.left in
+    let live = part_live net class c.requires.held c.args.p c.requires.next left c.leave_out.new.self c.if-not-is_live_without.ensures.part
+    (c.leave_out.ensures ∙ ap (λ (copy : LiveClass). part_left copy c.args.p left) c.in_ok-part.ensures.copy) in
+    pushed_live net (part_without (branch_of class) c.args.p) c.leave_out.new.self c.args.classes.now c.push.new.self c.push.result live c.push.ensures.ok
