@@ -8,3 +8,4 @@ pub mod ReadTags
 pub mod Arrivals
 pub mod Characters
 pub mod Taken
+pub mod TagValueLaws

@@ -1,6 +1,7 @@
 -- The reader as a state of the machine: the open elements from the inside out.
-use Rattle.std.specs.Prelude.{◌≡◌, List, ◌∷◌, map, reverse}
-use Rattle.pnml_grammar.specs.Contents.{Content as Given, ◌then◌, gives}
+use Rattle.std.specs.Prelude.{◌≡◌, List, ◌∷◌, map, reverse, codes}
+use Rattle.pnml_grammar.specs.Contents.{Content as Given, ◌then◌, gives, value_in, id_in}
+use Rattle.pnml_grammar.specs.declared.token.Attribute.{Attribute}
 use Rattle.pnml_grammar.specs.Counts.{Counts as Counted}
 use Rattle.pnml_grammar.specs.OpenElements.{Frame, State}
 use Rattle.pnml_grammar.specs.Machine.{receive}
@@ -8,6 +9,7 @@ use Rattle.pnml_decode.specs.declared.content.Content.{Content}
 use Rattle.pnml_decode.specs.declared.counts.Counts.{Counts}
 use Rattle.pnml_decode.specs.declared.open.Open.{Open}
 use Rattle.pnml_decode.specs.declared.reader.Reader.{Reader}
+use Rattle.pnml_decode.specs.declared.tag_values.TagValues.{TagValues}
 
 abbrev pub given : Content → Given
 given c = record {
@@ -65,3 +67,11 @@ view reader = record {
 abbrev pub Opens : Reader → Reader → Open → Type 0
 Opens old new element =
     view new ≡ record { top = frame element; under = frame old.top ∷ frames old.under.items; counts = counted old.counts }
+
+abbrev pub tag_values : List Attribute → TagValues
+tag_values attributes = record {
+  id = id_in attributes;
+  source = value_in (codes "source") attributes;
+  target = value_in (codes "target") attributes;
+  reference = value_in (codes "ref") attributes;
+}

@@ -18,6 +18,7 @@ mod open;
 mod progress;
 mod reader;
 mod reader_fault;
+mod tag_values;
 
 pub use decoder::Decoder;
 pub use document::decode;

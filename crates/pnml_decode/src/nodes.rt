@@ -1,125 +1,116 @@
 ghost use Rattle.std.specs.Prelude.{◌≡◌, IfOk, unwrap_or, codes};
 ghost use Rattle.pnml_grammar.specs.Contents.{first_value, value_in, id_in};
 
-use crate::attributes::value_of;
 use crate::content::Content;
+use crate::tag_values::TagValues;
 use net_values::{
     ArcNode, List, NetTree, NoMemory, PageNode, PlaceNode, RefNode, Text, TransitionNode,
 };
 use pnml_grammar::Attributes;
 use std::alloc::Global;
 
-/// What is made of a closed element: its id, its name, and what else it has.
-macro_rules! made {
-    ($node:ident of $attributes:ident, $names:ident by $alloc:ident $(; $field:ident: $value:expr)*) => {
-        Ok($node {
-            id: value_in($alloc, b"id", $attributes)?,
-            name: label($names),
-            $($field: $value,)*
-        })
-    };
-}
-
 /// The net of a closed element.
 pub(crate) fn net(
     alloc: Global,
-    attributes: &Attributes,
+    attributes: Attributes,
     content: Content,
 ) -> Result<NetTree, NoMemory>
     ensures { IfOk result (λ net. net ≡ record {
-      id = id_in attributes.now;
+      id = id_in attributes;
       name = first_value content.names;
       items = content.items;
     }) }
 {
     let Content { names, items, .. } = content;
-    made!(NetTree of attributes, names by alloc; items: items.into_items()?)
+    Ok(NetTree {
+        id: TagValues::of(alloc, attributes).id,
+        name: label(names),
+        items: items.into_items()?,
+    })
 }
 
 /// The start of the page of a closed element.
-pub(crate) fn page(
-    alloc: Global,
-    attributes: &Attributes,
-    names: List<Option<Text>>,
-) -> Result<PageNode, NoMemory>
-    ensures { IfOk result (λ page. page ≡ record {
-      id = id_in attributes.now;
+pub(crate) fn page(alloc: Global, attributes: Attributes, names: List<Option<Text>>) -> PageNode
+    ensures { result ≡ record {
+      id = id_in attributes;
       name = first_value names;
-    }) }
+    } }
 {
-    made!(PageNode of attributes, names by alloc)
+    PageNode {
+        id: TagValues::of(alloc, attributes).id,
+        name: label(names),
+    }
 }
 
-pub(crate) fn place(
-    alloc: Global,
-    attributes: &Attributes,
-    content: Content,
-) -> Result<PlaceNode, NoMemory>
-    ensures { IfOk result (λ place. place ≡ record {
-      id = id_in attributes.now;
+pub(crate) fn place(alloc: Global, attributes: Attributes, content: Content) -> PlaceNode
+    ensures { result ≡ record {
+      id = id_in attributes;
       name = first_value content.names;
       initial = unwrap_or (first_value content.numbers) 0;
-    }) }
+    } }
 {
     let Content { names, numbers, .. } = content;
-    made!(PlaceNode of attributes, names by alloc; initial: label(numbers).unwrap_or(0))
+    PlaceNode {
+        id: TagValues::of(alloc, attributes).id,
+        name: label(names),
+        initial: label(numbers).unwrap_or(0),
+    }
 }
 
 pub(crate) fn transition(
     alloc: Global,
-    attributes: &Attributes,
+    attributes: Attributes,
     names: List<Option<Text>>,
-) -> Result<TransitionNode, NoMemory>
-    ensures { IfOk result (λ transition. transition ≡ record {
-      id = id_in attributes.now;
+) -> TransitionNode
+    ensures { result ≡ record {
+      id = id_in attributes;
       name = first_value names;
-    }) }
+    } }
 {
-    made!(TransitionNode of attributes, names by alloc)
+    TransitionNode {
+        id: TagValues::of(alloc, attributes).id,
+        name: label(names),
+    }
 }
 
-pub(crate) fn arc(
-    alloc: Global,
-    attributes: &Attributes,
-    content: Content,
-) -> Result<ArcNode, NoMemory>
-    ensures { IfOk result (λ arc. arc ≡ record {
-      id = id_in attributes.now;
+pub(crate) fn arc(alloc: Global, attributes: Attributes, content: Content) -> ArcNode
+    ensures { result ≡ record {
+      id = id_in attributes;
       name = first_value content.names;
-      source = value_in (codes "source") attributes.now;
-      target = value_in (codes "target") attributes.now;
+      source = value_in (codes "source") attributes;
+      target = value_in (codes "target") attributes;
       weight = unwrap_or (first_value content.numbers) 1;
-    }) }
+    } }
 {
     let Content { names, numbers, .. } = content;
-    made!(ArcNode of attributes, names by alloc;
-        source: value_in(alloc, b"source", attributes)?;
-        target: value_in(alloc, b"target", attributes)?;
-        weight: label(numbers).unwrap_or(1))
+    let TagValues {
+        id,
+        source,
+        target,
+        ..
+    } = TagValues::of(alloc, attributes);
+    ArcNode {
+        id,
+        name: label(names),
+        source,
+        target,
+        weight: label(numbers).unwrap_or(1),
+    }
 }
 
 /// A reference node of either kind.
-pub(crate) fn reference(
-    alloc: Global,
-    attributes: &Attributes,
-    names: List<Option<Text>>,
-) -> Result<RefNode, NoMemory>
-    ensures { IfOk result (λ node. node ≡ record {
-      id = id_in attributes.now;
+pub(crate) fn reference(alloc: Global, attributes: Attributes, names: List<Option<Text>>) -> RefNode
+    ensures { result ≡ record {
+      id = id_in attributes;
       name = first_value names;
-      target = value_in (codes "ref") attributes.now;
-    }) }
+      target = value_in (codes "ref") attributes;
+    } }
 {
-    made!(RefNode of attributes, names by alloc; target: value_in(alloc, b"ref", attributes)?)
-}
-
-/// The value of an attribute that is there.
-fn value_in(alloc: Global, name: &[u8], attributes: &Attributes) -> Result<Text, NoMemory>
-    ensures { IfOk result (λ text. text ≡ value_in name.now attributes.now) }
-{
-    match value_of(name, attributes.as_slice()) {
-        Some(value) => value.copy(alloc),
-        None => Ok(Text::new(alloc)),
+    let TagValues { id, reference, .. } = TagValues::of(alloc, attributes);
+    RefNode {
+        id,
+        name: label(names),
+        target: reference,
     }
 }
 

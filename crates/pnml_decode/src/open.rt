@@ -119,30 +119,28 @@ fn give(alloc: Global, outer: &mut Content, closed: Open) -> Result<(), NoMemory
     match context {
         Context::Document | Context::Skipped => Ok(()),
         Context::Pnml => outer.give_document(Document { nets: content.nets }),
-        Context::Net => outer.give_net(nodes::net(alloc, &attributes, content)?),
+        Context::Net => outer.give_net(nodes::net(alloc, attributes, content)?),
         Context::Page => {
             let Content { names, items, .. } = content;
-            outer.give_page(nodes::page(alloc, &attributes, names)?, items)
+            outer.give_page(nodes::page(alloc, attributes, names), items)
         }
-        Context::Place => {
-            outer.give_item(Item::Place(nodes::place(alloc, &attributes, content)?))
-        }
+        Context::Place => outer.give_item(Item::Place(nodes::place(alloc, attributes, content))),
         Context::Transition => outer.give_item(Item::Transition(nodes::transition(
             alloc,
-            &attributes,
+            attributes,
             content.names,
-        )?)),
-        Context::Arc => outer.give_item(Item::Arc(nodes::arc(alloc, &attributes, content)?)),
+        ))),
+        Context::Arc => outer.give_item(Item::Arc(nodes::arc(alloc, attributes, content))),
         Context::ReferencePlace => outer.give_item(Item::RefPlace(nodes::reference(
             alloc,
-            &attributes,
+            attributes,
             content.names,
-        )?)),
+        ))),
         Context::ReferenceTransition => outer.give_item(Item::RefTransition(nodes::reference(
             alloc,
-            &attributes,
+            attributes,
             content.names,
-        )?)),
+        ))),
         Context::Name => outer.give_name(content.texts.into_first()),
         Context::InitialMarking | Context::Inscription => {
             outer.give_number(content.numerals.into_first())
