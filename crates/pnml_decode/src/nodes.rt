@@ -42,47 +42,55 @@ pub(crate) fn page(alloc: Global, attributes: Attributes, names: List<Option<Tex
     }
 }
 
-pub(crate) fn place(alloc: Global, attributes: Attributes, content: Content) -> PlaceNode
+pub(crate) fn place(
+    alloc: Global,
+    attributes: Attributes,
+    name: Option<Text>,
+    initial: Option<u64>,
+) -> PlaceNode
     ensures { result ≡ record {
       id = id_in attributes;
-      name = first_value content.names;
-      initial = unwrap_or (first_value content.numbers) 0;
+      name = name;
+      initial = unwrap_or initial 0;
     } }
 {
-    let Content { names, numbers, .. } = content;
     PlaceNode {
         id: TagValues::of(alloc, attributes).id,
-        name: label(names),
-        initial: label(numbers).unwrap_or(0),
+        name,
+        initial: initial.unwrap_or(0),
     }
 }
 
 pub(crate) fn transition(
     alloc: Global,
     attributes: Attributes,
-    names: List<Option<Text>>,
+    name: Option<Text>,
 ) -> TransitionNode
     ensures { result ≡ record {
       id = id_in attributes;
-      name = first_value names;
+      name = name;
     } }
 {
     TransitionNode {
         id: TagValues::of(alloc, attributes).id,
-        name: label(names),
+        name,
     }
 }
 
-pub(crate) fn arc(alloc: Global, attributes: Attributes, content: Content) -> ArcNode
+pub(crate) fn arc(
+    alloc: Global,
+    attributes: Attributes,
+    name: Option<Text>,
+    weight: Option<u64>,
+) -> ArcNode
     ensures { result ≡ record {
       id = id_in attributes;
-      name = first_value content.names;
+      name = name;
       source = value_in (codes "source") attributes;
       target = value_in (codes "target") attributes;
-      weight = unwrap_or (first_value content.numbers) 1;
+      weight = unwrap_or weight 1;
     } }
 {
-    let Content { names, numbers, .. } = content;
     let TagValues {
         id,
         source,
@@ -91,10 +99,10 @@ pub(crate) fn arc(alloc: Global, attributes: Attributes, content: Content) -> Ar
     } = TagValues::of(alloc, attributes);
     ArcNode {
         id,
-        name: label(names),
+        name,
         source,
         target,
-        weight: label(numbers).unwrap_or(1),
+        weight: weight.unwrap_or(1),
     }
 }
 
@@ -115,7 +123,7 @@ pub(crate) fn reference(alloc: Global, attributes: Attributes, names: List<Optio
 }
 
 /// The value of a label; one without a text is as if it were absent.
-fn label<T: Drop>(labels: List<Option<T>>) -> Option<T>
+pub(crate) fn label<T: Drop>(labels: List<Option<T>>) -> Option<T>
     ensures { result ≡ first_value labels }
 {
     match labels.into_first() {

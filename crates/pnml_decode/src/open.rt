@@ -1,5 +1,5 @@
 ghost use Rattle.std.specs.Prelude.{◌≡◌, OnOk, option_to_list};
-ghost use Rattle.pnml_grammar.specs.Contents.{nothing, characters_content, cdata_content};
+ghost use Rattle.pnml_grammar.specs.Contents.{nothing, gives, characters_content, cdata_content};
 ghost use Rattle.pnml_grammar.specs.Numerals.{number_in};
 ghost use Rattle.pnml_grammar.specs.OpenElements.{outermost};
 ghost use Rattle.pnml_grammar.specs.Reasons.{characters_rows, cdata_rows, name_rows, number_rows};
@@ -7,7 +7,7 @@ ghost use Rattle.pnml_decode.specs.Taking.{Accepts};
 ghost use Rattle.pnml_decode.specs.Views.{Gains, Receives, frame, given, given_by};
 
 use crate::content::{Content, has_some};
-use crate::nodes;
+use crate::nodes::{self, label};
 use crate::number::number_in;
 use crate::reader_fault::ReaderFault;
 use net_values::{Document, Item, MAX_NAME_BYTES, NoMemory, Text};
@@ -104,6 +104,48 @@ impl Open {
     {
         give(alloc, &mut self.content, closed)
     }
+
+    /// Takes an element of an empty tag.
+    pub(crate) fn take_empty(
+        &mut self,
+        alloc: Global,
+        context: Context,
+        attributes: Attributes,
+    ) -> Result<(), NoMemory>
+        ensures { OnOk result (Receives self.old self.new (gives context attributes nothing)) }
+    {
+        give_empty(alloc, &mut self.content, context, attributes)
+    }
+}
+
+/// Gives the content what an element without children gives. For a node or an arc, of which there may be
+/// many, no record of an open element is made.
+fn give_empty(
+    alloc: Global,
+    outer: &mut Content,
+    context: Context,
+    attributes: Attributes,
+) -> Result<(), NoMemory>
+    ensures { OnOk result (Gains outer.old outer.new (gives context attributes nothing)) }
+{
+    match context {
+        Context::Place => {
+            outer.give_item(Item::Place(nodes::place(alloc, attributes, None, None)))
+        }
+        Context::Transition => {
+            outer.give_item(Item::Transition(nodes::transition(alloc, attributes, None)))
+        }
+        Context::Arc => outer.give_item(Item::Arc(nodes::arc(alloc, attributes, None, None))),
+        _ => {
+            let closed = Open {
+                context,
+                name: Text::new(alloc),
+                attributes,
+                content: Content::new(alloc),
+            };
+            give(alloc, outer, closed)
+        }
+    }
 }
 
 /// Gives the content what the closed element gives.
@@ -124,13 +166,21 @@ fn give(alloc: Global, outer: &mut Content, closed: Open) -> Result<(), NoMemory
             let Content { names, items, .. } = content;
             outer.give_page(nodes::page(alloc, attributes, names), items)
         }
-        Context::Place => outer.give_item(Item::Place(nodes::place(alloc, attributes, content))),
+        Context::Place => {
+            let Content { names, numbers, .. } = content;
+            let (name, initial) = (label(names), label(numbers));
+            outer.give_item(Item::Place(nodes::place(alloc, attributes, name, initial)))
+        }
         Context::Transition => outer.give_item(Item::Transition(nodes::transition(
             alloc,
             attributes,
-            content.names,
+            label(content.names),
         ))),
-        Context::Arc => outer.give_item(Item::Arc(nodes::arc(alloc, attributes, content))),
+        Context::Arc => {
+            let Content { names, numbers, .. } = content;
+            let (name, weight) = (label(names), label(numbers));
+            outer.give_item(Item::Arc(nodes::arc(alloc, attributes, name, weight)))
+        }
         Context::ReferencePlace => outer.give_item(Item::RefPlace(nodes::reference(
             alloc,
             attributes,

@@ -83,13 +83,7 @@ impl Reader {
     {
         let (context, counts) = self.admit(true, name.as_bytes(), attributes.as_slice())?;
         let alloc = *self.under.allocator();
-        let closed = Open {
-            context,
-            name,
-            attributes,
-            content: Content::new(alloc),
-        };
-        self.top.take_element(alloc, closed)?;
+        self.top.take_empty(alloc, context, attributes)?;
         self.counts = counts;
         Ok(())
     }
