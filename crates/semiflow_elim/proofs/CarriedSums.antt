@@ -28,6 +28,17 @@ pub sums_free : (sums : List ColumnSums) (j : ℕ) → IsFree sums j → sums_in
 sums_free [] j free = refl
 sums_free (own ∷ sums) j free = sums_past own sums j (free 0 (omega arith)) ∙ sums_free sums j (free_rest own sums j free)
 
+-- sums that are in order have none of a column that lies before one of them and after all before that one
+pub free_passed : (width : ℕ) (sums : List ColumnSums) (j k : ℕ) → AreListed width sums → k < length sums → j < (get_or sums k (no_sums j)).column → ((i : ℕ) → i < k → (get_or sums i (no_sums j)).column ≡ j → ⊥) → IsFree sums j
+free_passed width sums j k h within past before i under same =
+    elim (cases_lt i k) [
+      | inl below ↦ before i below same
+      | inr above ↦ elim (cases_eq i k) [
+        | inl here ↦ let own : (get_or sums i (no_sums j)).column ≡ (get_or sums k (no_sums j)).column = ap (λ (n : ℕ). (get_or sums n (no_sums j)).column) here in omega arith
+        | inr apart ↦ let later = h.ascending k i (no_sums j) (omega arith) under in omega arith
+      ]
+    ]
+
 -- one more at the end
 pub pushed_other : (sums : List ColumnSums) (own : ColumnSums) (j : ℕ) → (own.column ≡ j → ⊥) → sums_in (sums ++ own ∷ []) j ≡ sums_in sums j
 pushed_other [] own j other = sums_past own [] j other

@@ -32,6 +32,12 @@ carry_more m K rows carried row sums h last =
 pub carried_along : (m : Matrix) (K K' : ℕ → Type 0) (row : List ℕ) (n : ℕ) (sums : List ColumnSums) → ((j : ℕ) → K j → K' j) → AreCarried m K row n sums → AreCarried m K' row n sums
 carried_along m K K' row n sums more h = record { each = λ j under out. h.each j under (λ inside. out (more j inside)); listed = h.listed }
 
+-- what rows carry is in the order of the columns
+pub carried_listed : (m : Matrix) (K : ℕ → Type 0) (rows : List (List ℕ)) (carried : List (List ColumnSums)) → CarryTheirs m K rows carried → All (AreListed m.columns) carried
+carried_listed m K rows carried h k d under =
+    let size = h.size in
+    subst (AreListed m.columns) (get_or_default carried k [] d under) (h.each k (omega arith)).listed
+
 module _ (m : Matrix) (K K' : ℕ → Type 0) (more : (j : ℕ) → K j → K' j) (rows joined : List (List ℕ)) (carried joined_carried : List (List ColumnSums)) (h : CarryTheirs m K rows carried) (j : CarryTheirs m K' joined joined_carried) where
   -- rows and what was added to them
   all_carried : (a : ℕ) → a < length (rows ++ joined) → AreCarried m K' (row_of (rows ++ joined) a) m.columns (list_of (carried ++ joined_carried) a)

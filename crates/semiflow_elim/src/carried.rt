@@ -3,7 +3,7 @@ ghost use Rattle.net_values.specs.PlaceSets.{has};
 ghost use Rattle.incidence.specs.Matrix.{gain_sum, loss_sum, transposed};
 ghost use Rattle.incidence.specs.Tables.{matrix_of};
 ghost use Rattle.semiflow_elim.specs.Bases.{in_set};
-ghost use Rattle.semiflow_elim.specs.Carried.{AreCarried, AreSumsAt, sums_in};
+ghost use Rattle.semiflow_elim.specs.Carried.{AreCarried, AreListed, AreSumsAt, sums_in};
 
 use incidence::{Incidence, WideSum};
 use net_values::{List, MAX_ENTRIES, NoMemory, PlaceSet, Vector};
@@ -95,8 +95,10 @@ pub(crate) fn sums_at(matrix: &Incidence, column: usize, row: &Vector) -> Column
     }
 }
 
-/// The sums of a column in a list of them. Where there are none, both are 0.
+/// The sums of a column in a list of them. Where there are none, both are 0. The list is in the order of the columns,
+/// so it isn't read beyond this one.
 pub(crate) fn find_sums(sums: &[ColumnSums], column: usize) -> Option<ColumnSums>
+    requires { (width : ℕ) × AreListed width sums.now }
     ensures { MatchOption result
         (sums_in sums.now column ≡ record { column = column; gain = 0; loss = 0 })
         (λ own. own ≡ sums_in sums.now column) }
@@ -104,6 +106,9 @@ pub(crate) fn find_sums(sums: &[ColumnSums], column: usize) -> Option<ColumnSums
     for own in sums {
         if own.column == column {
             return Some(*own);
+        }
+        if column < own.column {
+            return None;
         }
     }
     None

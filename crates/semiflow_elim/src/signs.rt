@@ -1,5 +1,6 @@
-ghost use Rattle.std.specs.Prelude.{◌≡◌, ℕ, ◌+◌, ◌≤◌, Bool, IfOk, OnOk, length, slice_index};
+ghost use Rattle.std.specs.Prelude.{◌≡◌, ℕ, ◌+◌, ◌≤◌, All, Bool, IfOk, OnOk, length, slice_index};
 ghost use Rattle.semiflow_elim.specs.Candidates.{AreRead, IsRead};
+ghost use Rattle.semiflow_elim.specs.Carried.{AreListed};
 ghost use Rattle.semiflow_elim.specs.Numbers.{AreNumbers, gains_at, loses_at};
 
 use crate::carried::{ColumnSums, WIDE, find_sums};
@@ -31,7 +32,8 @@ pub(crate) fn row_signs(
     rows: &CarriedRows,
     many: bool,
 ) -> Result<Signs, NoMemory>
-    requires { length rows.now.sums.items ≡ length rows.now.vectors.items }
+    requires size { length rows.now.sums.items ≡ length rows.now.vectors.items }
+    requires listed { (width : ℕ) × All (AreListed width) rows.now.sums.items }
     ensures sums { IfOk result (λ signs.
         AreRead column rows.now.vectors.items rows.now.sums.items signs.sums.items (length rows.now.vectors.items)) }
     ensures positive { IfOk result (λ signs.

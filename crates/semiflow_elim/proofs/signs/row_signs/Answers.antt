@@ -1,7 +1,7 @@
 use Rattle.std.proofs.Common.{nat_lt, Bool, refl, false, ◌≡◌, sym, ap, ◌∙◌, subst, ℕ, List, [], length, set, rules, Vec, Global, ◌<◌, ◌≤◌, ◌+◌, arith}
 use Rattle.std.proofs.lemmas.List.{get_or_default}
 use Rattle.semiflow_elim.specs.Candidates.{AreReadUpTo, IsRead, sums_of}
-use Rattle.semiflow_elim.specs.Carried.{list_of, sums_in}
+use Rattle.semiflow_elim.specs.Carried.{AreListed, list_of, sums_in}
 use Rattle.semiflow_elim.specs.Elimination.{row_of}
 use Rattle.semiflow_elim.specs.declared.carried.ColumnSums.{ColumnSums}
 use Rattle.semiflow_elim.specs.declared.signs.RowSums.{RowSums}
@@ -17,7 +17,7 @@ loop-i-preserved c =
     let rows = c.args.rows.now.vectors.items in
     let carried = c.args.rows.now.sums.items in
     let i = c.loop-i.i in
-    let size = c.requires in
+    let size = c.requires.size in
     let item : c.as_slice.result.now ≡ list_of carried i = c.as_slice.ensures ∙ c.index.ensures ∙ get_or_default carried i c.index.result.now [] (omega (arith, c.loop-i-test.true)) in
     let under : i < length rows = let end = c.loop-i-test.true in omega arith in
     let gains : ℕ → Bool = λ a. nat_lt (sums_in (list_of carried a) c.args.column).loss (sums_in (list_of carried a) c.args.column).gain in
@@ -67,3 +67,12 @@ pub returns-clause-negative : goal.returns-clause-negative
 returns-clause-negative c =
     signs_read c.args.column c.args.rows.now.vectors.items c.args.rows.now.sums.items c.loop-i.sums.items c.loop-i.i (λ g l. nat_lt g l) c.loop-i.negative.items
     (let end = c.loop-i-test.false in omega arith) (let most = c.loop-i.auto.i-end in omega arith) c.loop-i.invariant.read c.loop-i.invariant.negatives
+
+pub find_sums-requires : goal.find_sums-requires
+find_sums-requires c =
+    let carried = c.args.rows.now.sums.items in
+    let i = c.loop-i.i in
+    let size = c.requires.size in
+    let under : i < length carried = omega (arith, c.loop-i-test.true) in
+    let item : c.as_slice.result.now ≡ list_of carried i = c.as_slice.ensures ∙ c.index.ensures ∙ get_or_default carried i c.index.result.now [] under in
+    (c.requires.listed.0, subst (AreListed c.requires.listed.0) (sym item) (c.requires.listed.1 i [] under))

@@ -11,6 +11,7 @@ use Rattle.semiflow_elim.specs.Merged.{AreExact}
 use Rattle.semiflow_elim.specs.Numbers.{AreNumbers, gains_at, loses_at}
 use Rattle.semiflow_elim.specs.declared.carried.ColumnSums.{ColumnSums}
 use Rattle.semiflow_elim.specs.declared.signs.RowSums.{RowSums}
+use Rattle.semiflow_elim.proofs.Carrying.{carried_listed}
 use Rattle.semiflow_elim.proofs.Jointly.{carried_exact}
 use Rattle.semiflow_elim.proofs.TakenSets.{set_extends}
 use Rattle.semiflow_elim.proofs.Steps.{total_is, sums_step, read_sums}
@@ -39,6 +40,11 @@ returns-in_err-choice-clause-fails c =
 pub returns-then-choice-from-clause-fails : goal.returns-then-choice-from-clause-fails
 returns-then-choice-from-clause-fails c =
     inr (c.in_ok-choice.ensures.narrow, c.in_ok-choice.ensures.chosen, c.in_ok-choice.ensures.count, omega arith)
+
+pub row_signs-requires-clause-listed : goal.row_signs-requires-clause-listed
+row_signs-requires-clause-listed c =
+    let m = matrix_of c.args.matrix.now in
+    (m.columns, carried_listed m (in_set c.args.taken.now) c.args.rows.now.vectors.items c.args.rows.now.sums.items c.requires.carried)
 
 pub join_all-requires-clause-step : goal.join_all-requires-clause-step
 join_all-requires-clause-step c =
