@@ -1,4 +1,4 @@
--- Text up to a `<` in which nothing is to be resolved represents itself, and occurs whatever follows.
+-- Text up to a `<` that has a value occurs whatever follows. Where nothing is to be resolved it represents itself.
 use Rattle.std.proofs.Common.{◌≡◌, ℕ, ◌-◌, ◌≤◌, true, false, List, [], ◌∷◌, ◌++◌, Some, None, is_some, length, take, drop, refl, sym, ap, subst, ◌∙◌, arith, inl, inr, append_assoc, length-append}
 use Rattle.std.specs.Prelude.{Option, ◌==◌, codes, is_none, chars}
 use Rattle.std.specs.List.{list_all}
@@ -53,6 +53,9 @@ text_is_itself : (run : List ℕ) → list_all (in_class (Plain false)) run ≡ 
 unfolding value_of
 text_is_itself run plain legal = rw (spelling_is_text run legal) (itself false run plain)
 
+pub text_is_valued : (run : List ℕ) → is_spelling run ≡ true → list_all (in_class (Plain false)) run ≡ true → is_some (value_of false run) ≡ true
+text_is_valued run legal plain = ap (λ (o : Option (List ℕ)). is_some o) (text_is_itself run plain legal)
+
 text_shape : (bytes : List ℕ) → 1 ≤ length (passed is_text_byte bytes) → shape_at bytes ≡ characters_at bytes
 unfolding shape_at
 text_shape [] some = absurd (omega (arith, some))
@@ -65,24 +68,29 @@ none_there : {A : Type 0} (o : Option A) → false ≡ is_some o → is_none o �
 none_there None e = refl
 none_there (Some x) e = absurd cc
 
-text_is_read : (bytes run rest : List ℕ) → run ≡ passed is_text_byte bytes → rest ≡ beyond is_text_byte bytes → 1 ≤ length run → false ≡ is_some (until (codes "]]>") run) → list_all (in_class (Plain false)) run ≡ true
-    → is_spelling run ≡ true → token_from bytes ≡ Some (Characters run, rest)
+text_is_read : (bytes run rest value : List ℕ) → run ≡ passed is_text_byte bytes → rest ≡ beyond is_text_byte bytes → 1 ≤ length run → false ≡ is_some (until (codes "]]>") run) → value_of false run ≡ Some value
+    → is_spelling run ≡ true → token_from bytes ≡ Some (Characters value, rest)
 unfolding token_from characters_at
-text_is_read bytes run rest run_is rest_is some without plain legal =
-    let value : value_of false (passed is_text_byte bytes) ≡ Some run = ap (value_of false) (sym run_is) ∙ text_is_itself run plain legal in
+text_is_read bytes run rest value run_is rest_is some without valued legal =
+    let resolves : value_of false (passed is_text_byte bytes) ≡ Some value = ap (value_of false) (sym run_is) ∙ valued in
     let none : is_none (until (codes "]]>") (passed is_text_byte bytes)) ≡ true = ap (λ (t : List ℕ). is_none (until (codes "]]>") t)) (sym run_is) ∙ none_there (until (codes "]]>") run) without in
-    let characters : characters_at bytes ≡ Some (Characters run, beyond is_text_byte bytes) = rw (value, none) refl in
+    let characters : characters_at bytes ≡ Some (Characters value, beyond is_text_byte bytes) = rw (resolves, none) refl in
     let parts : bytes ≡ run ++ rest = sym (passed-beyond is_text_byte bytes) ∙ ap (λ (t : List ℕ). t ++ beyond is_text_byte bytes) (sym run_is) ∙ ap (λ (t : List ℕ). run ++ t) (sym rest_is) in
     let front : before_rest bytes rest ≡ run =
     ap (λ (t : List ℕ). before_rest t rest) parts ∙ take_at run rest (length (run ++ rest) - length rest) (omega (arith, length-append run rest))
     in
-    let shape : shape_at bytes ≡ Some (Characters run, rest) =
-    text_shape bytes (subst (λ (t : List ℕ). 1 ≤ length t) run_is some) ∙ characters ∙ ap (λ (t : List ℕ). Some (Characters run, t)) (sym rest_is)
+    let shape : shape_at bytes ≡ Some (Characters value, rest) =
+    text_shape bytes (subst (λ (t : List ℕ). 1 ≤ length t) run_is some) ∙ characters ∙ ap (λ (t : List ℕ). Some (Characters value, t)) (sym rest_is)
     in
     rw (shape, front, legal) refl
 
+value_there : (o : Option (List ℕ)) → is_some o ≡ true → (value : List ℕ) × (o ≡ Some value)
+value_there None e = absurd cc
+value_there (Some value) e = (value, refl)
+
 pub text_passes : (bytes run rest : List ℕ) → run ≡ passed is_text_byte bytes → rest ≡ beyond is_text_byte bytes → 1 ≤ length run → 1 ≤ length rest → false ≡ is_some (until (codes "]]>") run)
-    → list_all (in_class (Plain false)) run ≡ true → is_spelling run ≡ true → PassesCharacters [] bytes (length run)
-text_passes bytes run rest run_is rest_is some more without plain legal =
+    → is_some (value_of false run) ≡ true → is_spelling run ≡ true → PassesCharacters [] bytes (length run)
+text_passes bytes run rest run_is rest_is some more without valued legal =
+    let there = value_there (value_of false run) valued in
     let parts : bytes ≡ run ++ rest = sym (passed-beyond is_text_byte bytes) ∙ ap (λ (t : List ℕ). t ++ beyond is_text_byte bytes) (sym run_is) ∙ ap (λ (t : List ℕ). run ++ t) (sym rest_is) in
-    (refl, run, read_settles bytes (Characters run) rest (length run) (text_is_read bytes run rest run_is rest_is some without plain legal) more (omega (arith, ap length parts, length-append run rest)))
+    (refl, there.0, read_settles bytes (Characters there.0) rest (length run) (text_is_read bytes run rest there.0 run_is rest_is some without there.1 legal) more (omega (arith, ap length parts, length-append run rest)))

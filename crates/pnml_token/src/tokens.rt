@@ -109,7 +109,7 @@ impl Tokens {
         Some(taken)
     }
 
-    /// The same of characters in which nothing is to be resolved, with the `<` after them in the piece.
+    /// The same of characters, with the `<` after them in the piece.
     pub fn pass_characters(&mut self, piece: &[u8]) -> Option<usize>
         requires { fed_bytes self.old + length piece.now < 2 ^ 63 }
         ensures characters { IfSome result (λ taken. PassesCharacters (held_bytes self.old) piece.now taken) }

@@ -1,4 +1,4 @@
-ghost use Rattle.std.specs.Prelude.{◌≡◌, ◌<◌, ◌++◌, ℕ, false, length, drop, slice_index, IsUtf8, OnOk, IfOk, IfErr};
+ghost use Rattle.std.specs.Prelude.{◌≡◌, ◌<◌, ◌++◌, ℕ, true, false, is_some, length, drop, slice_index, IsTrue, IsUtf8, OnOk, IfOk, IfErr};
 ghost use Rattle.pnml_grammar.specs.Values.{lines_ended};
 ghost use Rattle.pnml_grammar.specs.Resolving.{literal, resolved, text_of, value_of};
 ghost use Rattle.pnml_grammar.specs.Runs.{passed, beyond};
@@ -42,6 +42,31 @@ fn resolve(alloc: Global, spaces: bool, text: &str) -> Result<Text, Miss>
         rest = beyond;
     }
     Ok(value)
+}
+
+/// Whether the bytes are told to have a value. No part of it is kept.
+#[tactic(auto, using(crate::proofs::Texts::value_there))]
+pub(crate) fn has_value(spaces: bool, bytes: &[u8]) -> bool
+    ensures { IsTrue result → is_some (value_of spaces bytes.now) ≡ true }
+{
+    match text_in(bytes) {
+        Ok(text) => is_resolved(spaces, text),
+        Err(_) => false,
+    }
+}
+
+/// The same of text.
+fn is_resolved(spaces: bool, text: &str) -> bool
+    ensures { IsTrue result → is_some (resolved (literal spaces text.now)) ≡ true }
+{
+    let mut rest = text;
+    'more: while !rest.is_empty() {
+        match next_piece(spaces, rest) {
+            Ok((_, beyond)) => rest = beyond,
+            Err(_) => return false,
+        }
+    }
+    true
 }
 
 /// The first part of a value, and the text after what it was made of.
