@@ -68,6 +68,7 @@ abbrev pub Opens : Reader → Reader → Open → Type 0
 Opens old new element =
     view new ≡ record { top = frame element; under = frame old.top ∷ frames old.under.items; counts = counted old.counts }
 
+-- the values that a net, a page, a node or an arc takes from its tag
 abbrev pub tag_values : List Attribute → TagValues
 tag_values attributes = record {
   id = id_in attributes;
